@@ -1,0 +1,1 @@
+// Gate lists as bytes.

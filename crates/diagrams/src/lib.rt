@@ -1,0 +1,1 @@
+// Stores of reduced diagrams.

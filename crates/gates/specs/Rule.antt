@@ -1,0 +1,100 @@
+-- A gate's data: how it acts on its target where its controls are 1, and what that does to a matrix's entries.
+-- Definitions only; that the data are the published matrices' is in proofs/Rules.antt.
+use mathlib.Core.Bool.{Bool, true, false, not, cond, _&&_, _||_, Bool·beq}
+use mathlib.Core.List.{List, [], _∷_}
+use Prim.Native.Nat.{ℕ, zero, suc}
+use lib.ListN.{set}
+use Rattle.algebra.specs.declared.Entry.{Entry}
+use Rattle.algebra.specs.Entry.{𝟘, 𝟙, neg, _⊕_, _⊖_, turned, w8^}
+use Rattle.algebra.specs.Matrix.{Bits, Matrix}
+use Rattle.gates.specs.Gate.{Kind, X, Y, Z, H, S, S†, T, T†, Pair, CNOT, CZ, Gate, on, pair, Meant, one, two, unknown, meant, is, bit, table}
+use Rattle.gates.specs.declared.Phases.{Phases}
+use Rattle.gates.specs.declared.Rule.{Rule}
+use Rattle.gates.specs.declared.Decision.{Decision}
+use Rattle.gates.specs.declared.Decision.the-variants.{Known, Unknown}
+
+-- ---- the data of each code
+
+abbrev pub phases : ℕ → ℕ → Phases
+phases z o = record { zero = z; one = o }
+
+-- diagonal: the same from both sides
+abbrev pub diagonal : ℕ → ℕ → ℕ → Rule
+diagonal qubits power undo = record { qubits = qubits; mixes = false; flips = false; left = phases 0 power; right = phases 0 power; inverse = undo }
+
+abbrev pub flipping : ℕ → Phases → Phases → ℕ → Rule
+flipping qubits l r undo = record { qubits = qubits; mixes = false; flips = true; left = l; right = r; inverse = undo }
+
+abbrev pub kind-rule : Kind → Rule
+kind-rule X = flipping 1 (phases 0 0) (phases 0 0) 0
+kind-rule Y = flipping 1 (phases 6 2) (phases 2 6) 1
+kind-rule Z = diagonal 1 4 2
+kind-rule H = record { qubits = 1; mixes = true; flips = false; left = phases 0 0; right = phases 0 0; inverse = 3 }
+kind-rule S = diagonal 1 2 5
+kind-rule S† = diagonal 1 6 4
+kind-rule T = diagonal 1 1 7
+kind-rule T† = diagonal 1 7 6
+
+abbrev pub pair-rule : Pair → Rule
+pair-rule CNOT = flipping 2 (phases 0 0) (phases 0 0) 8
+pair-rule CZ = diagonal 2 4 9
+
+abbrev pub rule-of : Meant → Decision
+rule-of (one k) = Known (kind-rule k)
+rule-of (two k) = Known (pair-rule k)
+rule-of unknown = Unknown
+
+unfoldable pub decision : ℕ → Decision
+decision code = rule-of (meant code)
+
+-- ---- the data as small matrices
+
+abbrev pub phase : Phases → Bool → ℕ
+phase p false = p .zero
+phase p true = p .one
+
+-- the target's bit that an entry is taken from
+abbrev pub flipped : Rule → Bool → Bool
+flipped rule x = cond (rule .flips) (not x) x
+
+-- row by row: row x has its one entry in column flipped x
+abbrev pub left-matrix : Rule → Bool → Bool → Entry
+left-matrix rule x y = cond (rule .mixes) (table 𝟙 𝟙 𝟙 (neg 𝟙) x y) (cond (Bool·beq (flipped rule x) y) (w8^ (phase (rule .left) x)) 𝟘)
+
+-- column by column: column y has its one entry in row flipped y
+abbrev pub right-matrix : Rule → Bool → Bool → Entry
+right-matrix rule x y = cond (rule .mixes) (table 𝟙 𝟙 𝟙 (neg 𝟙) x y) (cond (Bool·beq (flipped rule y) x) (w8^ (phase (rule .right) y)) 𝟘)
+
+-- with a control: the identity where the control is 0
+abbrev pub controlled : (Bool → Bool → Entry) → Bool → Bool → Bool → Bool → Entry
+controlled m c t c′ t′ = cond (Bool·beq c c′) (cond c (m t t′) (cond (Bool·beq t t′) 𝟙 𝟘)) 𝟘
+
+-- ---- what a gate does to the entries, as a function of the bits of one side
+
+abbrev pub gate-rule : Gate → Rule
+gate-rule (on k q) = kind-rule k
+gate-rule (pair k p q) = pair-rule k
+
+abbrev pub controls : Gate → ℕ → Bool
+controls (on k q) i = false
+controls (pair k p q) i = is p i
+
+abbrev pub target : Gate → ℕ
+target (on k q) = q
+target (pair k p q) = q
+
+-- every place of the set has bit 1
+abbrev pub all-set : (ℕ → Bool) → Bits → Bool
+all-set P [] = true
+all-set P (x ∷ l) = (not (P 0) || x) && all-set (λ i. P (suc i)) l
+
+-- H: the sum where the target's bit is 0, the difference where it is 1
+abbrev pub mixed : ℕ → (Bits → Entry) → Bits → Entry
+mixed q F l = cond (bit l q) (F (set l q false) ⊖ F (set l q true)) (F (set l q false) ⊕ F (set l q true))
+
+abbrev pub moved : Rule → Phases → ℕ → (Bits → Entry) → Bits → Entry
+moved rule p q F l = turned (phase p (bit l q)) (F (cond (rule .flips) (set l q (not (bit l q))) l))
+
+-- the entries after the gate, from those before it: F is a column's entries by row, or a row's by column
+unfoldable pub acted : Rule → Phases → (ℕ → Bool) → ℕ → (Bits → Entry) → Bits → Entry
+acted rule p P q F l = cond (all-set P l) (cond (rule .mixes) (mixed q F l) (moved rule p q F l)) (F l)
