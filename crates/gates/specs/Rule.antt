@@ -1,12 +1,12 @@
 -- A gate's data: how it acts on its target where its controls are 1, and what that does to a matrix's entries.
 -- Definitions only; that the data are the published matrices' is in proofs/Rules.antt.
 use mathlib.Core.Bool.{Bool, true, false, not, cond, _&&_, _||_, Bool·beq}
-use mathlib.Core.List.{List, [], _∷_}
+use mathlib.Core.List.{[], _∷_}
 use Prim.Native.Nat.{ℕ, zero, suc}
 use lib.ListN.{set}
 use Rattle.algebra.specs.declared.Entry.{Entry}
 use Rattle.algebra.specs.Entry.{𝟘, 𝟙, neg, _⊕_, _⊖_, turned, w8^}
-use Rattle.algebra.specs.Matrix.{Bits, Matrix}
+use Rattle.algebra.specs.Matrix.{Bits}
 use Rattle.gates.specs.Gate.{Kind, X, Y, Z, H, S, S†, T, T†, Pair, CNOT, CZ, Gate, on, pair, Meant, one, two, unknown, meant, is, bit, table}
 use Rattle.gates.specs.declared.Phases.{Phases}
 use Rattle.gates.specs.declared.Rule.{Rule}

@@ -1,7 +1,7 @@
 // The one decision over gate codes: what a gate does to a matrix, from the left and from the right, and its inverse.
 ghost use mathlib.Core.Path.{_≡_};
-ghost use mathlib.Core.Bool.{Bool, true, false};
-ghost use Rattle.gates.specs.Rule.{phases, diagonal, flipping, decision};
+ghost use mathlib.Core.Bool.{true, false};
+ghost use Rattle.gates.specs.Rule.{diagonal, flipping, decision};
 
 // The powers of w8 by which an entry is multiplied, by the target's bit.
 pub struct Phases {
