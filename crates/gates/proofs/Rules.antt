@@ -1,10 +1,12 @@
 -- The data of specs/Rule.antt are those of the published matrices and inverses.
 -- Assumes nothing.
-use mathlib.Core.Path.{_≡_, refl}
+use mathlib.Core.Path.{_≡_, refl, subst⁻¹}
 use mathlib.Core.Bool.{Bool, true, false}
+use Prim.Native.Nat.{ℕ}
 use Rattle.algebra.specs.Entry.{𝟙, neg, turned, times-w8}
-use Rattle.gates.specs.Gate.{Kind, X, Y, Z, H, S, S†, T, T†, Pair, CNOT, CZ, one, two, meant, small, small-pair, inverse-kind}
-use Rattle.gates.specs.Rule.{kind-rule, pair-rule, left-matrix, right-matrix, controlled}
+use Rattle.gates.specs.Gate.{Kind, X, Y, Z, H, S, S†, T, T†, Pair, CNOT, CZ, Meant, one, two, unknown, meant, small, small-pair, inverse-kind}
+use Rattle.gates.specs.Rule.{kind-rule, pair-rule, left-matrix, right-matrix, controlled, rule-of, decision, Published, Decided}
+use Rattle.gates.specs.declared.Decision.{Decision}
 
 -- what holds at each of the four pairs of bits holds at every pair
 pub four : (P : Bool → Bool → Type 0) → P false false → P false true → P true false → P true true → (x y : Bool) → P x y
@@ -73,3 +75,14 @@ pub pair-inverse : (k : Pair) → meant (pair-rule k .inverse) ≡ two k
 unfolding meant
 pair-inverse CNOT = refl
 pair-inverse CZ = refl
+
+-- ---- the decision
+
+published : (m : Meant) → Published m (rule-of m)
+published (one k) = (kind-left k, kind-right k, kind-inverse k)
+published (two k) = (pair-left k, pair-right k, pair-inverse k)
+published unknown = tt
+
+pub decided : (code : ℕ) {r : Decision} → r ≡ decision code → Decided code r
+unfolding decision
+decided code e = record { is = e; published = subst⁻¹ (Published (meant code)) e (published (meant code)) }

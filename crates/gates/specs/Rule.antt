@@ -1,5 +1,6 @@
 -- A gate's data: how it acts on its target where its controls are 1, and what that does to a matrix's entries.
 -- Definitions only; that the data are the published matrices' is in proofs/Rules.antt.
+use mathlib.Core.Path.{_≡_}
 use mathlib.Core.Bool.{Bool, true, false, not, cond, _&&_, _||_, Bool·beq}
 use mathlib.Core.List.{[], _∷_}
 use Prim.Native.Nat.{ℕ, zero, suc}
@@ -7,7 +8,7 @@ use lib.ListN.{set}
 use Rattle.algebra.specs.declared.Entry.{Entry}
 use Rattle.algebra.specs.Entry.{𝟘, 𝟙, neg, _⊕_, _⊖_, turned, w8^}
 use Rattle.algebra.specs.Matrix.{Bits}
-use Rattle.gates.specs.Gate.{Kind, X, Y, Z, H, S, S†, T, T†, Pair, CNOT, CZ, Gate, on, pair, Meant, one, two, unknown, meant, is, bit, table}
+use Rattle.gates.specs.Gate.{Kind, X, Y, Z, H, S, S†, T, T†, Pair, CNOT, CZ, Gate, on, pair, Meant, one, two, unknown, meant, is, bit, table, small, small-pair, inverse-kind}
 use Rattle.gates.specs.declared.Phases.{Phases}
 use Rattle.gates.specs.declared.Rule.{Rule}
 use Rattle.gates.specs.declared.Decision.{Decision}
@@ -71,6 +72,24 @@ right-matrix rule x y = acting rule (rule .right) y x
 -- with a control: the identity where the control is 0
 abbrev pub controlled : (Bool → Bool → Entry) → Bool → Bool → Bool → Bool → Entry
 controlled m c t c′ t′ = cond (Bool·beq c c′) (cond c (m t t′) (cond (Bool·beq t t′) 𝟙 𝟘)) 𝟘
+
+-- what a decision says of the code: the published matrix, made row by row and column by column, and the inverse's code
+abbrev pub Published : Meant → Decision → Type 0
+Published (one k) (Known rule) =
+    ((x y : Bool) → left-matrix rule x y ≡ small k x y) × ((x y : Bool) → right-matrix rule x y ≡ small k x y)
+    × (meant (rule .inverse) ≡ one (inverse-kind k))
+Published (one k) Unknown = ⊥
+Published (two k) (Known rule) =
+    ((c t c′ t′ : Bool) → controlled (left-matrix rule) c t c′ t′ ≡ small-pair k c t c′ t′)
+    × ((c t c′ t′ : Bool) → controlled (right-matrix rule) c t c′ t′ ≡ small-pair k c t c′ t′)
+    × (meant (rule .inverse) ≡ two k)
+Published (two k) Unknown = ⊥
+Published unknown (Known rule) = ⊥
+Published unknown Unknown = Unit {0}
+
+pub record Decided (code : ℕ) (r : Decision) : Type 0 where
+  pub is : r ≡ decision code
+  pub published : Published (meant code) r
 
 -- ---- what a gate does to the entries, as a function of the bits of one side
 
