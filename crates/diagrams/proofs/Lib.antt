@@ -1,3 +1,4 @@
 pub mod Tests
 pub mod Keeping
 pub mod Again
+pub mod Unique
