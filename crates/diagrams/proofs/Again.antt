@@ -79,8 +79,9 @@ module _ {X : Type 0} {same : X → X → Bool} (𝓓 : Decides same) where
   reduce-extends (suc left) level f s =
       let low : Diagram X = reduce same left (suc level) (λ l. f (false ∷ l)) s in
       let high : Diagram X = reduce same left (suc level) (λ l. f (true ∷ l)) (low .store) in
-      extends-trans (reduce-extends left (suc level) (λ l. f (false ∷ l)) s)
-      (extends-trans (reduce-extends left (suc level) (λ l. f (true ∷ l)) (low .store)) (make-node-extends (branch level (low .root) (high .root)) (high .store)))
+      let node-added = make-node-extends (branch level (low .root) (high .root)) (high .store) in
+      let high-added = extends-trans (reduce-extends left (suc level) (λ l. f (true ∷ l)) (low .store)) node-added in
+      extends-trans (reduce-extends left (suc level) (λ l. f (false ∷ l)) s) high-added
 
   -- ---- to reduce again in a store that holds the result changes nothing and gives the same reference
 

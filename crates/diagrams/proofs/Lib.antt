@@ -2,3 +2,4 @@ pub mod Tests
 pub mod Keeping
 pub mod Again
 pub mod Unique
+pub mod Exists

@@ -42,8 +42,11 @@ module _ {X : Type 0} (s : Store X) where
   closed-suc i j closed low high n h = by-order (decLt n i)
     where
       more : (n : ℕ) → Seen (node-at s n .low) i j × Seen (node-at s n .high) i j → Seen (node-at s n .low) (suc i) j × Seen (node-at s n .high) (suc i) j
-      more n seen = (seen-more (node-at s n .low) i j (suc i) j (omega arith) (omega arith) (seen .0),
-          seen-more (node-at s n .high) i j (suc i) j (omega arith) (omega arith) (seen .1))
+      more n seen = (
+        seen-more (node-at s n .low) i j (suc i) j (omega arith) (omega arith) (seen .0),
+        seen-more (node-at s n .high) i j (suc i) j (omega arith) (omega arith) (seen .1),
+      )
+
       by-order : Dec (n < i) → Seen (node-at s n .low) (suc i) j × Seen (node-at s n .high) (suc i) j
       by-order (yes k) = more n (closed n k)
       by-order (no k) =
@@ -59,13 +62,21 @@ module _ {X : Type 0} (s : Store X) where
   walked : {r : Ref} {i j i′ j′ : ℕ} → Walk s r i j i′ j′ → Closed i j → Walked r i j i′ j′
   walked (old-value h) closed = record { more-nodes = omega arith; more-values = omega arith; seen = h; closed = closed }
   walked (new-value {i = i} {j = j}) closed = record {
-      more-nodes = omega arith; more-values = omega arith; seen = omega arith; closed = closed-more i j (suc j) (omega arith) closed }
+    more-nodes = omega arith;
+    more-values = omega arith;
+    seen = omega arith;
+    closed = closed-more i j (suc j) (omega arith) closed;
+  }
   walked (old-node h) closed = record { more-nodes = omega arith; more-values = omega arith; seen = h; closed = closed }
   walked (new-node {i₁ = i₁} {j₁ = j₁} {n = n} {j′ = j′} low high) closed =
       let l = walked low closed in
       let h = walked high (l .closed) in
-      record { more-nodes = omega arith; more-values = omega arith; seen = omega arith;
-          closed = closed-suc n j′ (h .closed) (seen-more (node-at s n .low) i₁ j₁ n j′ (h .more-nodes) (h .more-values) (l .seen)) (h .seen) }
+      record {
+        more-nodes = omega arith;
+        more-values = omega arith;
+        seen = omega arith;
+        closed = closed-suc n j′ (h .closed) (seen-more (node-at s n .low) i₁ j₁ n j′ (h .more-nodes) (h .more-values) (l .seen)) (h .seen);
+      }
 
   pub old-walk : (r : Ref) (i j : ℕ) → Seen r i j → Walk s r i j i j
   old-walk (value v) i j h = old-value h
@@ -108,8 +119,8 @@ module _ {X : Type 0} (s : Store X) where
         → reduce same (suc left) level (reached blank s level (node n)) (prefix i j) ≡ rooted (prefix i′ j₂) (node n)
     rebuilds-children left level n i j i₁ j₁ i₂ j₂ i′ e h low high kept =
         reduce-step 𝓓 left level (reached blank s level (node n)) (prefix i j) (prefix i₁ j₁) (prefix i₂ j₂) (node-at s n .low) (node-at s n .high)
-            (ap (λ (f : Bits → X). reduce same left (suc level) f (prefix i j)) (down false) ∙ low)
-            (ap (λ (f : Bits → X). reduce same left (suc level) f (prefix i₁ j₁)) (down true) ∙ high)
+        (ap (λ (f : Bits → X). reduce same left (suc level) f (prefix i j)) (down false) ∙ low)
+        (ap (λ (f : Bits → X). reduce same left (suc level) f (prefix i₁ j₁)) (down true) ∙ high)
         ∙ ap (λ (d : ℕ). make-node (branch d (node-at s n .low) (node-at s n .high)) (prefix i₂ j₂)) (sym (eqb-true (node-at s n .level) level e))
         ∙ rebuilds-node n i₂ j₂ i′ h kept
       where
@@ -126,18 +137,18 @@ module _ {X : Type 0} (s : Store X) where
         let low = node-at s n .low in
         let high = node-at s n .high in
         rebuilds-children left level n i j i j i j i e (omega arith)
-            (below low i j i j (child-rises level n low e (low-rises n (omega arith))) (old-walk low i j (closed n h .0)) closed p q)
-            (below high i j i j (child-rises level n high e (high-rises n (omega arith))) (old-walk high i j (closed n h .1)) closed p q)
-            (keep-old node-decides unused (s .nodes) no-two-nodes n i h p)
+        (below low i j i j (child-rises level n low e (low-rises n (omega arith))) (old-walk low i j (closed n h .0)) closed p q)
+        (below high i j i j (child-rises level n high e (high-rises n (omega arith))) (old-walk high i j (closed n h .1)) closed p q)
+        (keep-old node-decides unused (s .nodes) no-two-nodes n i h p)
     rebuilds-asked left level n i j i′ j′ e (new-node {i₁ = i₁} {j₁ = j₁} w₁ w₂) closed p q below =
         let low = node-at s n .low in
         let high = node-at s n .high in
         let after-low = walked w₁ closed in
         let after-high = walked w₂ (after-low .closed) in
         rebuilds-children left level n i j i₁ j₁ n j′ (suc n) e (omega arith)
-            (below low i j i₁ j₁ (child-rises level n low e (low-rises n (omega arith))) w₁ closed (omega arith) (omega arith))
-            (below high i₁ j₁ n j′ (child-rises level n high e (high-rises n (omega arith))) w₂ (after-low .closed) (omega arith) q)
-            (keep-next node-decides unused (s .nodes) no-two-nodes n (omega arith))
+        (below low i j i₁ j₁ (child-rises level n low e (low-rises n (omega arith))) w₁ closed (omega arith) (omega arith))
+        (below high i₁ j₁ n j′ (child-rises level n high e (high-rises n (omega arith))) w₂ (after-low .closed) (omega arith) q)
+        (keep-next node-decides unused (s .nodes) no-two-nodes n (omega arith))
 
     -- a level that the reference does not ask for
     rebuilds-passed : (left level : ℕ) (r : Ref) (i j i′ j′ : ℕ) → ((b : Bool) → (λ l. reached blank s level r (b ∷ l)) ≡ reached blank s (suc level) r)
@@ -146,9 +157,9 @@ module _ {X : Type 0} (s : Store X) where
     rebuilds-passed left level r i j i′ j′ past from walk closed p q rebuilds =
         let after = walked walk closed in
         reduce-alike 𝓓 left level (reached blank s level r) (prefix i j) (prefix i′ j′) r
-            (ap (λ (f : Bits → X). reduce same left (suc level) f (prefix i j)) (past false) ∙ rebuilds r i j i′ j′ from walk closed p q)
-            (ap (λ (f : Bits → X). reduce same left (suc level) f (prefix i′ j′)) (past true)
-            ∙ rebuilds r i′ j′ i′ j′ from (old-walk r i′ j′ (after .seen)) (after .closed) p q)
+        (ap (λ (f : Bits → X). reduce same left (suc level) f (prefix i j)) (past false) ∙ rebuilds r i j i′ j′ from walk closed p q)
+        (ap (λ (f : Bits → X). reduce same left (suc level) f (prefix i′ j′)) (past true)
+        ∙ rebuilds r i′ j′ i′ j′ from (old-walk r i′ j′ (after .seen)) (after .closed) p q)
 
     pub rebuilds : (left level : ℕ) → left + level ≡ levels → Rebuilds left level
     rebuilds zero level e (value v) i j i′ j′ from walk closed p q = rebuilds-value level v i j i′ j′ walk q
@@ -160,7 +171,8 @@ module _ {X : Type 0} (s : Store X) where
         absurd (omega arith)
     rebuilds (suc left) level e (value v) i j i′ j′ from walk closed p q =
         rebuilds-passed left level (value v) i j i′ j′ (λ b. refl) tt walk closed p q (rebuilds left (suc level) (omega arith))
-    rebuilds (suc left) level e (node n) i j i′ j′ from walk closed p q = by-test (eqb (node-at s n .level) level) refl (rebuilds left (suc level) (omega arith))
+    rebuilds (suc left) level e (node n) i j i′ j′ from walk closed p q =
+        by-test (eqb (node-at s n .level) level) refl (rebuilds left (suc level) (omega arith))
       where
         by-test : (b : Bool) → eqb (node-at s n .level) level ≡ b → Rebuilds left (suc level)
             → reduce same (suc left) level (reached blank s level (node n)) (prefix i j) ≡ rooted (prefix i′ j′) (node n)
@@ -186,7 +198,7 @@ pub reduced-unique : {X : Type 0} {same : X → X → Bool} (𝓓 : Decides same
 reduced-unique {same = same} 𝓓 blank levels f D 𝓡 =
     sym (ap (λ (s : Store _). rooted s (D .root)) (prefix-all (D .store) 𝓓 blank levels tidy))
     ∙ sym (rebuilds (D .store) 𝓓 blank levels tidy levels 0 (omega arith) (D .root) 0 0 (length (D .store .nodes)) (length (D .store .values))
-        (from-zero (D .store) (D .root)) (𝓡 .numbered) (λ n h. absurd (none-below n h)) (omega arith) (omega arith))
+    (from-zero (D .store) (D .root)) (𝓡 .numbered) (λ n h. absurd (none-below n h)) (omega arith) (omega arith))
     ∙ reduce-ext 𝓓 levels 0 (reached blank (D .store) 0 (D .root)) f empty (𝓡 .gives)
   where
     tidy : Tidy blank levels (D .store)
