@@ -30,6 +30,43 @@ extends-trans {X} {s} g h = record {
   values-are = h .values-are ∙ ap (λ (l : List X). l ++ h .more-values) (g .values-are) ∙ append-assoc (s .values) (g .more-values) (h .more-values);
 }
 
+-- ---- nodes
+
+module _ {X : Type 0} where
+  pub make-node-alike : (n : Node) (s : Store X) → same-ref (n .low) (n .high) ≡ true → make-node n s ≡ rooted s (n .low)
+  make-node-alike n s alike = rw alike
+
+  pub make-node-apart : (n : Node) (s : Store X) → same-ref (n .low) (n .high) ≡ false → make-node n s ≡ put-node n s
+  make-node-apart n s apart = rw apart
+
+  put-node-extends : (n : Node) (s : Store X) → Extends s (put-node n s .store)
+  put-node-extends n s =
+      let grown = keep-extends node-decides n (s .nodes) in
+      record { more-nodes = grown .0; more-values = []; nodes-are = grown .1; values-are = sym (append-nil (s .values)) }
+
+  pub make-node-extends : (n : Node) (s : Store X) → Extends s (make-node n s .store)
+  make-node-extends n s = by-test (same-ref (n .low) (n .high)) refl
+    where
+      by-test : (b : Bool) → same-ref (n .low) (n .high) ≡ b → Extends s (make-node n s .store)
+      by-test true alike = subst (λ (D : Diagram X). Extends s (D .store)) (sym (make-node-alike n s alike)) (extends-refl s)
+      by-test false apart = subst (λ (D : Diagram X). Extends s (D .store)) (sym (make-node-apart n s apart)) (put-node-extends n s)
+
+  put-node-again : (n : Node) (s t : Store X) → Extends (put-node n s .store) t → put-node n t ≡ rooted t (put-node n s .root)
+  put-node-again n s t g =
+      let again = keep-again node-decides n (s .nodes) (g .more-nodes) in
+      let kept : keep same-node n (t .nodes) ≡ t .nodes = ap (keep same-node n) (g .nodes-are) ∙ again .0 ∙ sym (g .nodes-are) in
+      let found : slot same-node n (t .nodes) ≡ slot same-node n (s .nodes) = ap (slot same-node n) (g .nodes-are) ∙ again .1 in
+      λ i. rooted (holding (kept i) (t .values)) (node (found i))
+
+  pub make-node-again : (n : Node) (s t : Store X) → Extends (make-node n s .store) t → make-node n t ≡ rooted t (make-node n s .root)
+  make-node-again n s t g = by-test (same-ref (n .low) (n .high)) refl
+    where
+      by-test : (b : Bool) → same-ref (n .low) (n .high) ≡ b → make-node n t ≡ rooted t (make-node n s .root)
+      by-test true alike = make-node-alike n t alike ∙ ap (λ (D : Diagram X). rooted t (D .root)) (sym (make-node-alike n s alike))
+      by-test false apart = make-node-apart n t apart
+          ∙ put-node-again n s t (subst (λ (D : Diagram X). Extends (D .store) t) (make-node-apart n s apart) g)
+          ∙ ap (λ (D : Diagram X). rooted t (D .root)) (sym (make-node-apart n s apart))
+
 module _ {X : Type 0} {same : X → X → Bool} (𝓓 : Decides same) where
   -- ---- one level of a reduction
 
@@ -64,15 +101,6 @@ module _ {X : Type 0} {same : X → X → Bool} (𝓓 : Decides same) where
       let grown = keep-extends 𝓓 x (s .values) in
       record { more-nodes = []; more-values = grown .0; nodes-are = sym (append-nil (s .nodes)); values-are = grown .1 }
 
-  pub make-node-extends : (n : Node) (s : Store X) → Extends s (make-node n s .store)
-  make-node-extends n s = by-test (same-ref (n .low) (n .high))
-    where
-      by-test : (b : Bool) → Extends s (cond b (rooted s (n .low)) (put-node n s) .store)
-      by-test true = extends-refl s
-      by-test false =
-          let grown = keep-extends node-decides n (s .nodes) in
-          record { more-nodes = grown .0; more-values = []; nodes-are = grown .1; values-are = sym (append-nil (s .values)) }
-
   pub reduce-extends : (left level : ℕ) (f : Bits → X) (s : Store X) → Extends s (reduce same left level f s .store)
   unfolding reduce
   reduce-extends zero level f s = put-value-extends (f []) s
@@ -91,19 +119,6 @@ module _ {X : Type 0} {same : X → X → Bool} (𝓓 : Decides same) where
       let kept : keep same x (t .values) ≡ t .values = ap (keep same x) (g .values-are) ∙ again .0 ∙ sym (g .values-are) in
       let found : slot same x (t .values) ≡ slot same x (s .values) = ap (slot same x) (g .values-are) ∙ again .1 in
       λ i. rooted (holding (t .nodes) (kept i)) (value (found i))
-
-  pub make-node-again : (n : Node) (s t : Store X) → Extends (make-node n s .store) t → make-node n t ≡ rooted t (make-node n s .root)
-  make-node-again n s t = by-test (same-ref (n .low) (n .high))
-    where
-      by-test : (b : Bool) → Extends (cond b (rooted s (n .low)) (put-node n s) .store) t
-          → cond b (rooted t (n .low)) (put-node n t)
-          ≡ rooted t (cond b (rooted s (n .low)) (put-node n s) .root)
-      by-test true g = refl
-      by-test false g =
-          let again = keep-again node-decides n (s .nodes) (g .more-nodes) in
-          let kept : keep same-node n (t .nodes) ≡ t .nodes = ap (keep same-node n) (g .nodes-are) ∙ again .0 ∙ sym (g .nodes-are) in
-          let found : slot same-node n (t .nodes) ≡ slot same-node n (s .nodes) = ap (slot same-node n) (g .nodes-are) ∙ again .1 in
-          λ i. rooted (holding (kept i) (t .values)) (node (found i))
 
   pub reduce-again : (left level : ℕ) (f : Bits → X) (s t : Store X) → Extends (reduce same left level f s .store) t
       → reduce same left level f t ≡ rooted t (reduce same left level f s .root)
@@ -135,15 +150,12 @@ module _ {X : Type 0} {same : X → X → Bool} (𝓓 : Decides same) where
 
   -- ---- skipped levels
 
-  make-node-skipped : (level : ℕ) (r : Ref) (s : Store X) → make-node (branch level r r) s ≡ rooted s r
-  make-node-skipped level r s = rw (ref-decides .reflexive r)
-
   -- both halves come to one reference
   pub reduce-alike : (left level : ℕ) (f : Bits → X) (s t : Store X) (r : Ref)
       → reduce same left (suc level) (λ l. f (false ∷ l)) s ≡ rooted t r
       → Known left (suc level) (λ l. f (true ∷ l)) t r
       → reduce same (suc left) level f s ≡ rooted t r
-  reduce-alike left level f s t r e₁ e₂ = reduce-step left level f s t t r r e₁ e₂ ∙ make-node-skipped level r t
+  reduce-alike left level f s t r e₁ e₂ = reduce-step left level f s t t r r e₁ e₂ ∙ make-node-alike (branch level r r) t (ref-decides .reflexive r)
 
   -- f does not depend on the first bit
   pub reduce-skip : (left level : ℕ) (f : Bits → X) (s : Store X) → ((l : Bits) → length l ≡ left → f (false ∷ l) ≡ f (true ∷ l))

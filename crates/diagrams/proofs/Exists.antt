@@ -12,12 +12,12 @@ use lib.Dec.{eqb}
 use borrow.Author.Tests.{eq-eqb, ne-eqb}
 use Rattle.algebra.specs.Matrix.{Bits}
 use Rattle.diagrams.specs.Diagram.{Ref, value, node, Node, branch, Store, holding, Diagram, rooted, unused, node-at, reached, empty}
-use Rattle.diagrams.specs.Diagram.{From, Tidy, Reaches, here, by-low, by-high, Reduced, Walk, old-value, new-value, old-node, new-node, ReducedOf}
+use Rattle.diagrams.specs.Diagram.{Both, From, Tidy, Reaches, here, by-low, by-high, Reduced, Walk, old-value, new-value, old-node, new-node, ReducedOf}
 use Rattle.diagrams.specs.Diagram.{slot, keep, same-ref, same-node, put-value, put-node, make-node, reduce}
 use Rattle.diagrams.proofs.Tests.{Decides, not-same, ref-decides, node-decides}
 use Rattle.diagrams.proofs.Keeping.{Absent, all-snoc, distinct-snoc, Kept, found, fresh, kept}
-use Rattle.diagrams.proofs.Again.{Extends, extends-refl, extends-trans, reduce-ext}
-use Rattle.diagrams.proofs.Unique.{Seen, seen-more, Closed, closed-more, old-walk, prefix, prefix-all, rebuilds}
+use Rattle.diagrams.proofs.Again.{Extends, extends-refl, extends-trans, make-node-alike, make-node-apart, reduce-ext}
+use Rattle.diagrams.proofs.Unique.{Seen, seen-more, both-map, Closed, closed-more, old-walk, prefix, prefix-all, rebuilds}
 
 abbrev nodes-used : {X : Type 0} → Store X → ℕ
 nodes-used s = length (s .nodes)
@@ -78,11 +78,14 @@ module _ {X : Type 0} {s t : Store X} (g : Extends s t) where
   value-kept blank j h = ap (λ (l : List X). getD l j blank) (g .values-are) ∙ List·getD-append (s .values) (g .more-values) blank j h
 
   seen-kept : (r : Ref) → Seen r (nodes-used s) (values-used s) → Seen r (nodes-used t) (values-used t)
-  seen-kept r h = seen-more r (nodes-used s) (values-used s) (nodes-used t) (values-used t) nodes-grow values-grow h
+  seen-kept r h = seen-more (nodes-used s) (values-used s) (nodes-used t) (values-used t) nodes-grow values-grow r h
 
   from-kept : (level : ℕ) (r : Ref) → Seen r (nodes-used s) (values-used s) → From s level r → From t level r
   from-kept level (value v) h from = tt
   from-kept level (node i) h from = subst (λ (n : Node). level ≤ n .level) (sym (node-kept i h)) from
+
+  children-from : (level : ℕ) (n : Node) → Both (λ r. Seen r (nodes-used s) (values-used s)) n → Both (From s level) n → Both (From t level) n
+  children-from level n seen from = (from-kept level (n .low) (seen .0) (from .0), from-kept level (n .high) (seen .1) (from .1))
 
   reached-kept : (blank : X) → Closed s (nodes-used s) (values-used s) → (l : Bits) (level : ℕ) (r : Ref) → Seen r (nodes-used s) (values-used s)
       → reached blank t level r l ≡ reached blank s level r l
@@ -133,8 +136,7 @@ module _ {X : Type 0} (blank : X) (levels : ℕ) where
       no-two-nodes = λ i j h. absurd (no-index i h);
       no-value-twice = λ i j h. absurd (no-index i h);
       levels-below = λ i h. absurd (no-index i h);
-      low-rises = λ i h. absurd (no-index i h);
-      high-rises = λ i h. absurd (no-index i h);
+      levels-rise = λ i h. absurd (no-index i h);
     };
     closed = λ i h. absurd (no-index i h);
   }
@@ -149,8 +151,7 @@ module _ {X : Type 0} (blank : X) (levels : ℕ) where
       no-two-nodes = valid .tidy .no-two-nodes;
       no-value-twice = distinct-snoc blank x (s .values) (valid .tidy .no-value-twice) absent;
       levels-below = valid .tidy .levels-below;
-      low-rises = λ i h. from-kept more (suc (node-at s i .level)) (node-at s i .low) (valid .closed i h .0) (valid .tidy .low-rises i h);
-      high-rises = λ i h. from-kept more (suc (node-at s i .level)) (node-at s i .high) (valid .closed i h .1) (valid .tidy .high-rises i h);
+      levels-rise = λ i h. children-from more (suc (node-at s i .level)) (node-at s i) (valid .closed i h) (valid .tidy .levels-rise i h);
     };
     closed = closed-more s (nodes-used s) (values-used s) (length (s .values ++ (x ∷ []))) (values-grow more) (valid .closed);
   }
@@ -162,24 +163,19 @@ module _ {X : Type 0} (blank : X) (levels : ℕ) where
   node-more n s = record { more-nodes = n ∷ []; more-values = []; nodes-are = refl; values-are = sym (append-nil (s .values)) }
 
   valid-node : (n : Node) (s : Store X) → Valid s → Absent unused n (s .nodes) → (n .low ≡ n .high → ⊥) → n .level < levels
-      → Seen (n .low) (nodes-used s) (values-used s) → Seen (n .high) (nodes-used s) (values-used s)
-      → From s (suc (n .level)) (n .low) → From s (suc (n .level)) (n .high) → Valid (holding (s .nodes ++ (n ∷ [])) (s .values))
-  valid-node n s valid absent differ below low-seen high-seen low-from high-from = record {
+      → Both (λ r. Seen r (nodes-used s) (values-used s)) n → Both (From s (suc (n .level))) n → Valid (holding (s .nodes ++ (n ∷ [])) (s .values))
+  valid-node n s valid absent differ below seen from = record {
     tidy = record {
       children-differ = all-snoc (λ (m : Node). m .low ≡ m .high → ⊥) unused n (s .nodes) (valid .tidy .children-differ) differ;
       no-two-nodes = distinct-snoc unused n (s .nodes) (valid .tidy .no-two-nodes) absent;
       no-value-twice = valid .tidy .no-value-twice;
       levels-below = all-snoc (λ (m : Node). m .level < levels) unused n (s .nodes) (valid .tidy .levels-below) below;
-      low-rises = all-snoc (λ (m : Node). From t (suc (m .level)) (m .low)) unused n (s .nodes)
-          (λ i h. from-kept more (suc (node-at s i .level)) (node-at s i .low) (valid .closed i h .0) (valid .tidy .low-rises i h))
-          (from-kept more (suc (n .level)) (n .low) low-seen low-from);
-      high-rises = all-snoc (λ (m : Node). From t (suc (m .level)) (m .high)) unused n (s .nodes)
-          (λ i h. from-kept more (suc (node-at s i .level)) (node-at s i .high) (valid .closed i h .1) (valid .tidy .high-rises i h))
-          (from-kept more (suc (n .level)) (n .high) high-seen high-from);
+      levels-rise = all-snoc (λ (m : Node). Both (From t (suc (m .level))) m) unused n (s .nodes)
+          (λ i h. children-from more (suc (node-at s i .level)) (node-at s i) (valid .closed i h) (valid .tidy .levels-rise i h))
+          (children-from more (suc (n .level)) n seen from);
     };
-    closed = all-snoc (λ (m : Node). Seen (m .low) (nodes-used t) (values-used t) × Seen (m .high) (nodes-used t) (values-used t)) unused n (s .nodes)
-        (λ i h. (seen-kept more (node-at s i .low) (valid .closed i h .0), seen-kept more (node-at s i .high) (valid .closed i h .1)))
-        (seen-kept more (n .low) low-seen, seen-kept more (n .high) high-seen);
+    closed = all-snoc (Both (λ r. Seen r (nodes-used t) (values-used t))) unused n (s .nodes)
+        (λ i h. both-map (node-at s i) (seen-kept more) (valid .closed i h)) (both-map n (seen-kept more) seen);
   }
     where
       t : Store X
@@ -318,23 +314,17 @@ module _ {X : Type 0} {same : X → X → Bool} (𝓓 : Decides same) (blank : X
         is-before : node-at s j ≡ n
         is-before = sym (node-kept both-more j before) ∙ is
 
-        low-seen : Seen low (nodes-used s) (values-used s)
-        low-seen = subst (λ (m : Node). Seen (m .low) (nodes-used s) (values-used s)) is-before (valid .closed j before .0)
+        seen : Both (λ r. Seen r (nodes-used s) (values-used s)) n
+        seen = subst (Both (λ r. Seen r (nodes-used s) (values-used s))) is-before (valid .closed j before)
 
-        high-seen : Seen high (nodes-used s) (values-used s)
-        high-seen = subst (λ (m : Node). Seen (m .high) (nodes-used s) (values-used s)) is-before (valid .closed j before .1)
-
-        low-from : From s (suc level) low
-        low-from = subst (λ (m : Node). From s (suc (m .level)) (m .low)) is-before (valid .tidy .low-rises j before)
-
-        high-from : From s (suc level) high
-        high-from = subst (λ (m : Node). From s (suc (m .level)) (m .high)) is-before (valid .tidy .high-rises j before)
+        from : Both (From s (suc level)) n
+        from = subst (λ (m : Node). Both (From s (suc (m .level))) m) is-before (valid .tidy .levels-rise j before)
 
         low-gives : (l : Bits) → length l ≡ left → reached blank s (suc level) low l ≡ f (false ∷ l)
-        low-gives l e = sym (reached-kept (𝓛 .extends) blank (valid .closed) l (suc level) low low-seen) ∙ 𝓛 .gives l e
+        low-gives l e = sym (reached-kept (𝓛 .extends) blank (valid .closed) l (suc level) low (seen .0)) ∙ 𝓛 .gives l e
 
         high-gives : (l : Bits) → length l ≡ left → reached blank s (suc level) high l ≡ f (true ∷ l)
-        high-gives l e = sym (reached-kept both-more blank (valid .closed) l (suc level) high high-seen) ∙ 𝓗 .gives l e
+        high-gives l e = sym (reached-kept both-more blank (valid .closed) l (suc level) high (seen .1)) ∙ 𝓗 .gives l e
 
         halves : (b : Bool) (l : Bits) → length l ≡ left → reached blank s level (node j) (b ∷ l) ≡ f (b ∷ l)
         halves true l e = reached-down blank s level j low high true l is-before ∙ high-gives l e
@@ -342,11 +332,11 @@ module _ {X : Type 0} {same : X → X → Bool} (𝓓 : Decides same) (blank : X
 
         low-stays : s ≡ s₁
         low-stays = ap (λ (D : Diagram X). D .store)
-            (sym (known-given left (suc level) (λ l. f (false ∷ l)) s low (omega arith) valid low-seen low-from low-gives) ∙ low-is)
+            (sym (known-given left (suc level) (λ l. f (false ∷ l)) s low (omega arith) valid (seen .0) (from .0) low-gives) ∙ low-is)
 
         stays : s ≡ s₂
         stays = ap (λ (D : Diagram X). D .store)
-            (sym (known-given left (suc level) (λ l. f (true ∷ l)) s high (omega arith) valid high-seen high-from high-gives)
+            (sym (known-given left (suc level) (λ l. f (true ∷ l)) s high (omega arith) valid (seen .1) (from .1) high-gives)
             ∙ ap (λ (t : Store X). reduce same left (suc level) (λ l. f (true ∷ l)) t) low-stays ∙ high-is)
 
     abbrev s₃ : Store X
@@ -355,8 +345,8 @@ module _ {X : Type 0} {same : X → X → Bool} (𝓓 : Decides same) (blank : X
     made-fresh : (low ≡ high → ⊥) → Absent unused n (s₂ .nodes) → Made (suc left) level f s (rooted s₃ (node (nodes-used s₂)))
     made-fresh apart absent = record {
       extends = extends-trans both-more node-added;
-      valid = valid-node blank levels n s₂ (𝓗 .valid) absent apart (omega arith) (seen-kept (𝓗 .extends) low (𝓛 .seen)) (𝓗 .seen)
-          (from-kept (𝓗 .extends) (suc level) low (𝓛 .seen) (𝓛 .from)) (𝓗 .from);
+      valid = valid-node blank levels n s₂ (𝓗 .valid) absent apart (omega arith)
+          (seen-kept (𝓗 .extends) low (𝓛 .seen), 𝓗 .seen) (from-kept (𝓗 .extends) (suc level) low (𝓛 .seen) (𝓛 .from), 𝓗 .from);
       seen = omega (arith, len);
       from = omega (arith, ap (λ (m : Node). m .level) new-is);
       gives = at-cons (λ (l : Bits). reached blank s₃ level (node (nodes-used s₂)) l ≡ f l) left halves;
@@ -406,9 +396,10 @@ module _ {X : Type 0} {same : X → X → Bool} (𝓓 : Decides same) (blank : X
         by-kept apart (fresh absent (p, q)) =
             subst (Made (suc left) level f s) (λ i. rooted (holding (sym p i) (s₂ .values)) (node (sym q i))) (made-fresh apart absent)
 
-        by-test : (b : Bool) → same-ref low high ≡ b → Made (suc left) level f s (cond b (rooted s₂ low) (put-node n s₂))
-        by-test true e = made-alike (ref-decides .sound low high e)
-        by-test false e = by-kept (not-same ref-decides low high e) (kept node-decides unused n (s₂ .nodes))
+        by-test : (b : Bool) → same-ref low high ≡ b → Made (suc left) level f s (make-node n s₂)
+        by-test true e = subst (Made (suc left) level f s) (sym (make-node-alike n s₂ e)) (made-alike (ref-decides .sound low high e))
+        by-test false e = subst (Made (suc left) level f s) (sym (make-node-apart n s₂ e))
+            (by-kept (not-same ref-decides low high e) (kept node-decides unused n (s₂ .nodes)))
 
   made : (left level : ℕ) (f : Bits → X) (s : Store X) → left + level ≡ levels → Valid blank levels s → Made left level f s (reduce same left level f s)
   unfolding reduce

@@ -12,11 +12,11 @@ use lib.Dec.{eqb}
 use borrow.Author.Tests.{eqb-true, eqb-false}
 use Rattle.algebra.specs.Matrix.{Bits}
 use Rattle.diagrams.specs.Diagram.{Ref, value, node, Node, branch, Store, holding, Diagram, rooted, unused, node-at, reached, empty}
-use Rattle.diagrams.specs.Diagram.{From, Tidy, Reduced, Walk, old-value, new-value, old-node, new-node, ReducedOf}
+use Rattle.diagrams.specs.Diagram.{Both, From, Tidy, Reduced, Walk, old-value, new-value, old-node, new-node, ReducedOf}
 use Rattle.diagrams.specs.Diagram.{slot, keep, same-ref, same-node, make-node, reduce}
 use Rattle.diagrams.proofs.Tests.{Decides, same-not, ref-decides, node-decides}
 use Rattle.diagrams.proofs.Keeping.{Keeps, keep-old, keep-next}
-use Rattle.diagrams.proofs.Again.{reduce-step, reduce-ext, reduce-alike}
+use Rattle.diagrams.proofs.Again.{make-node-apart, reduce-step, reduce-ext, reduce-alike}
 
 -- ---- what a walk leaves
 
@@ -25,33 +25,32 @@ abbrev pub Seen : Ref → ℕ → ℕ → Type 0
 Seen (value v) i j = v < j
 Seen (node n) i j = n < i
 
-pub seen-more : (r : Ref) (i j i′ j′ : ℕ) → i ≤ i′ → j ≤ j′ → Seen r i j → Seen r i′ j′
-seen-more (value v) i j i′ j′ p q h = omega arith
-seen-more (node n) i j i′ j′ p q h = omega arith
+pub seen-more : (i j i′ j′ : ℕ) → i ≤ i′ → j ≤ j′ → (r : Ref) → Seen r i j → Seen r i′ j′
+seen-more i j i′ j′ p q (value v) h = omega arith
+seen-more i j i′ j′ p q (node n) h = omega arith
+
+pub both-map : {P Q : Ref → Type 0} (n : Node) → ((r : Ref) → P r → Q r) → Both P n → Both Q n
+both-map n implies both = (implies (n .low) (both .0), implies (n .high) (both .1))
 
 module _ {X : Type 0} (s : Store X) where
   -- the children of the first i nodes are among these, and the first j values
   abbrev pub Closed : ℕ → ℕ → Type 0
-  Closed i j = (n : ℕ) → n < i → Seen (node-at s n .low) i j × Seen (node-at s n .high) i j
+  Closed i j = (n : ℕ) → n < i → Both (λ r. Seen r i j) (node-at s n)
 
   pub closed-more : (i j j′ : ℕ) → j ≤ j′ → Closed i j → Closed i j′
-  closed-more i j j′ p closed n h =
-      (seen-more (node-at s n .low) i j i j′ (omega arith) p (closed n h .0), seen-more (node-at s n .high) i j i j′ (omega arith) p (closed n h .1))
+  closed-more i j j′ p closed n h = both-map (node-at s n) (seen-more i j i j′ (omega arith) p) (closed n h)
 
-  closed-suc : (i j : ℕ) → Closed i j → Seen (node-at s i .low) i j → Seen (node-at s i .high) i j → Closed (suc i) j
-  closed-suc i j closed low high n h = by-order (decLt n i)
+  closed-suc : (i j : ℕ) → Closed i j → Both (λ r. Seen r i j) (node-at s i) → Closed (suc i) j
+  closed-suc i j closed last n h = by-order (decLt n i)
     where
-      more : (n : ℕ) → Seen (node-at s n .low) i j × Seen (node-at s n .high) i j → Seen (node-at s n .low) (suc i) j × Seen (node-at s n .high) (suc i) j
-      more n seen = (
-        seen-more (node-at s n .low) i j (suc i) j (omega arith) (omega arith) (seen .0),
-        seen-more (node-at s n .high) i j (suc i) j (omega arith) (omega arith) (seen .1),
-      )
+      more : (n : ℕ) → Both (λ r. Seen r i j) (node-at s n) → Both (λ r. Seen r (suc i) j) (node-at s n)
+      more n seen = both-map (node-at s n) (seen-more i j (suc i) j (omega arith) (omega arith)) seen
 
-      by-order : Dec (n < i) → Seen (node-at s n .low) (suc i) j × Seen (node-at s n .high) (suc i) j
+      by-order : Dec (n < i) → Both (λ r. Seen r (suc i) j) (node-at s n)
       by-order (yes k) = more n (closed n k)
       by-order (no k) =
           let e : i ≡ n = omega arith in
-          subst (λ (m : ℕ). Seen (node-at s m .low) (suc i) j × Seen (node-at s m .high) (suc i) j) e (more i (low, high))
+          subst (λ (m : ℕ). Both (λ r. Seen r (suc i) j) (node-at s m)) e (more i last)
 
   record Walked (r : Ref) (i j i′ j′ : ℕ) : Type 0 where
     more-nodes : i ≤ i′
@@ -75,7 +74,7 @@ module _ {X : Type 0} (s : Store X) where
         more-nodes = omega arith;
         more-values = omega arith;
         seen = omega arith;
-        closed = closed-suc n j′ (h .closed) (seen-more (node-at s n .low) i₁ j₁ n j′ (h .more-nodes) (h .more-values) (l .seen)) (h .seen);
+        closed = closed-suc n j′ (h .closed) (seen-more i₁ j₁ n j′ (h .more-nodes) (h .more-values) (node-at s n .low) (l .seen), h .seen);
       }
 
   pub old-walk : (r : Ref) (i j : ℕ) → Seen r i j → Walk s r i j i j
@@ -89,7 +88,7 @@ module _ {X : Type 0} (s : Store X) where
   prefix i j = holding (take i (s .nodes)) (take j (s .values))
 
   module _ {same : X → X → Bool} (𝓓 : Decides same) (blank : X) (levels : ℕ) (𝓣 : Tidy blank levels s) where
-    open Tidy 𝓣 using (children-differ, no-two-nodes, no-value-twice, levels-below, low-rises, high-rises)
+    open Tidy 𝓣 using (children-differ, no-two-nodes, no-value-twice, levels-below, levels-rise)
 
     -- what r gives from a level on, reduced into the store as the walk found it, leaves the store as the walk leaves it
     abbrev Rebuilds : ℕ → ℕ → Type 0
@@ -108,8 +107,9 @@ module _ {X : Type 0} (s : Store X) where
 
     rebuilds-node : (n i j i′ : ℕ) → n < length (s .nodes) → Keeps same-node (node-at s n) (take i (s .nodes)) (take i′ (s .nodes)) n
         → make-node (node-at s n) (prefix i j) ≡ rooted (prefix i′ j) (node n)
-    rebuilds-node n i j i′ h kept = rw (same-not ref-decides (node-at s n .low) (node-at s n .high) (children-differ n h))
-        (λ t. rooted (holding (kept .0 t) (take j (s .values))) (node (kept .1 t)))
+    rebuilds-node n i j i′ h kept =
+        make-node-apart (node-at s n) (prefix i j) (same-not ref-decides (node-at s n .low) (node-at s n .high) (children-differ n h))
+        ∙ (λ t. rooted (holding (kept .0 t) (take j (s .values))) (node (kept .1 t)))
 
     -- a node of this level, both of whose children are rebuilt
     rebuilds-children : (left level n i j i₁ j₁ i₂ j₂ i′ : ℕ) → eqb (node-at s n .level) level ≡ true → n < length (s .nodes)
@@ -137,8 +137,8 @@ module _ {X : Type 0} (s : Store X) where
         let low = node-at s n .low in
         let high = node-at s n .high in
         rebuilds-children left level n i j i j i j i e (omega arith)
-        (below low i j i j (child-rises level n low e (low-rises n (omega arith))) (old-walk low i j (closed n h .0)) closed p q)
-        (below high i j i j (child-rises level n high e (high-rises n (omega arith))) (old-walk high i j (closed n h .1)) closed p q)
+        (below low i j i j (child-rises level n low e (levels-rise n (omega arith) .0)) (old-walk low i j (closed n h .0)) closed p q)
+        (below high i j i j (child-rises level n high e (levels-rise n (omega arith) .1)) (old-walk high i j (closed n h .1)) closed p q)
         (keep-old node-decides unused (s .nodes) no-two-nodes n i h p)
     rebuilds-asked left level n i j i′ j′ e (new-node {i₁ = i₁} {j₁ = j₁} w₁ w₂) closed p q below =
         let low = node-at s n .low in
@@ -146,8 +146,8 @@ module _ {X : Type 0} (s : Store X) where
         let after-low = walked w₁ closed in
         let after-high = walked w₂ (after-low .closed) in
         rebuilds-children left level n i j i₁ j₁ n j′ (suc n) e (omega arith)
-        (below low i j i₁ j₁ (child-rises level n low e (low-rises n (omega arith))) w₁ closed (omega arith) (omega arith))
-        (below high i₁ j₁ n j′ (child-rises level n high e (high-rises n (omega arith))) w₂ (after-low .closed) (omega arith) q)
+        (below low i j i₁ j₁ (child-rises level n low e (levels-rise n (omega arith) .0)) w₁ closed (omega arith) (omega arith))
+        (below high i₁ j₁ n j′ (child-rises level n high e (levels-rise n (omega arith) .1)) w₂ (after-low .closed) (omega arith) q)
         (keep-next node-decides unused (s .nodes) no-two-nodes n (omega arith))
 
     -- a level that the reference does not ask for

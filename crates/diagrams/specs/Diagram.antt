@@ -67,6 +67,10 @@ reached blank s level (node i) (b ∷ l) = cond
 abbrev pub Distinct : {A : Type 0} → A → List A → Type 0
 Distinct blank l = (i j : ℕ) → i < length l → j < length l → getD l i blank ≡ getD l j blank → i ≡ j
 
+-- what holds of both children
+abbrev pub Both : (Ref → Type 0) → Node → Type 0
+Both P n = P (n .low) × P (n .high)
+
 module _ {X : Type 0} where
   -- a value, or a node of this level or a later one
   abbrev pub From : Store X → ℕ → Ref → Type 0
@@ -80,8 +84,7 @@ module _ {X : Type 0} where
     pub no-two-nodes : Distinct unused (s .nodes)
     pub no-value-twice : Distinct blank (s .values)
     pub levels-below : (i : ℕ) → i < length (s .nodes) → node-at s i .level < levels
-    pub low-rises : (i : ℕ) → i < length (s .nodes) → From s (suc (node-at s i .level)) (node-at s i .low)
-    pub high-rises : (i : ℕ) → i < length (s .nodes) → From s (suc (node-at s i .level)) (node-at s i .high)
+    pub levels-rise : (i : ℕ) → i < length (s .nodes) → Both (From s (suc (node-at s i .level))) (node-at s i)
 
   pub data Reaches (s : Store X) : Ref → Ref → Type 0 where
     here : {r : Ref} → Reaches s r r
