@@ -4,9 +4,18 @@ use algebra::Entry;
 // What a refusal returns: its number in the paper's table alone, or with the list and the offset of the byte, or with the
 // steps finished before it.
 pub enum Refusal {
-    Call { number: u32 },
-    Byte { number: u32, list: u32, offset: usize },
-    Step { number: u32, steps: u32 },
+    Call {
+        number: u32,
+    },
+    Byte {
+        number: u32,
+        list: u32,
+        offset: usize,
+    },
+    Step {
+        number: u32,
+        steps: u32,
+    },
 }
 
 // The lowest place that forbids equality, its entry, and the corner entry.
