@@ -4,7 +4,7 @@ use mathlib.Core.Path.{_≡_, refl, sym, _∙_, ap, ap₂, fun-ext, subst, _≡�
 use Prim.Native.Nat.{ℕ, zero, suc, _+_}
 use native.Mathlib.Nat.{zero-add as nat-zero-add, suc-add}
 use native.Mathlib.Omega.{arith}
-use lib.IntN.{ℤ, pos, negsuc, negℤ, negℤ-negℤ}
+use lib.IntN.{ℤ, pos, negsuc, negℤ-negℤ}
 use Rattle.algebra.specs.declared.Entry.{Entry}
 use Rattle.algebra.specs.Entry.{entry, 𝟘, 𝟙, _⊕_, neg, _⊖_, _⊗_, times-w8, times-w8⁻¹, times-√2, turned, w8^, √2^}
 use Rattle.algebra.proofs.Rings.{CommutativeRing, add-lcomm, zero-add, one-mul, zero-mul}

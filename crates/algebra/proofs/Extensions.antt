@@ -1,6 +1,6 @@
 -- A commutative ring with a square root of one of its elements adjoined: pairs (p, q) for p + q·s, with s·s = t.
 -- Assumes nothing.
-use mathlib.Core.Path.{_≡_, refl, sym, _∙_, ap}
+use mathlib.Core.Path.{_≡_}
 use Rattle.algebra.proofs.Rings.{CommutativeRing, add-lcomm, mul-lcomm, zero-add, add-mul, mul-zero, add-swap}
 
 pub record Extension (R : Type 0) : Type 0 where

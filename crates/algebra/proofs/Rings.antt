@@ -1,7 +1,7 @@
 -- Commutative rings, and what follows from their laws. In a section over one, `simp` with the laws of associativity,
 -- commutativity and distributivity decides equations of polynomials.
 -- Assumes nothing.
-use mathlib.Core.Path.{_≡_, refl, sym, _∙_, ap, _≡⟨_⟩_, _∎}
+use mathlib.Core.Path.{_≡_, sym, _∙_, ap, _≡⟨_⟩_, _∎}
 
 pub record CommutativeRing (R : Type 0) : Type 0 where
   pub add : R → R → R

@@ -1,2 +1,4 @@
-pub mod Starred
+pub mod Schedules
+pub mod Scalars
 pub mod Verdicts
+pub mod Starred
