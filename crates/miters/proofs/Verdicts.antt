@@ -21,9 +21,11 @@ use Rattle.diagrams.proofs.Tests.{entry-decides}
 use Rattle.diagrams.proofs.Places.{length-place, length-halves, place-halves}
 use Rattle.miters.specs.declared.Difference.{Difference}
 use Rattle.miters.specs.declared.Verdict.{Verdict}
-use Rattle.miters.specs.declared.Verdict.the-variants.{Equal as judged-equal, Different}
+use Rattle.miters.specs.declared.Verdict.the-variants.{Equal as equal-with, Different}
 use Rattle.miters.specs.Miter.{All-fit, corner, miter, Turns, Equal, Scalar}
-use Rattle.miters.specs.Report.{number, forbids, lower, lowest, verdict-by, verdict}
+use Rattle.miters.proofs.Scalars.{scalar-turns, equal-iff-scalar}
+use Rattle.miters.proofs.Schedules.{miter-power}
+use Rattle.miters.specs.Report.{number, forbids, lower, lowest, difference, verdict-by, verdict}
 
 -- ---- the lowest bits that pass a test
 
@@ -117,17 +119,41 @@ module _ (n : ℕ) (M : Matrix) where
   pub clear-iff-scalar : Clear ↔ Scalar n M
   clear-iff-scalar = (clear-scalar, scalar-clear)
 
-  -- ---- what the verdict says
+-- ---- the verdict on two lists
 
-  pub data Says : Verdict → Type 0 where
-    says-equal : Scalar n M → Says (judged-equal (corner n M))
-    says-different : (l : Bits) → (Scalar n M → ⊥) → Least (levels n) (forbids n M) l
-        → Says (Different (record { row = number (rows l); column = number (columns l); entry = entries M l; corner = corner n M }))
+-- equal, with the corner, which over √2 to the miter's exponent turns V's matrix into U's; or different, with the lowest place
+-- that forbids equality
+pub data Says (n : ℕ) (us vs : List Gate) : Verdict → Type 0 where
+  says-equal : Equal n us vs → Turns n us vs (corner n (miter n us vs .entries)) (miter n us vs .power)
+      → Says n us vs (equal-with (corner n (miter n us vs .entries)))
+  says-different : (Equal n us vs → ⊥) → (l : Bits) → Least (levels n) (forbids n (miter n us vs .entries)) l
+      → Says n us vs (Different (difference n (miter n us vs .entries) l))
 
-  says : (x : Option Bits) → Searched (levels n) (forbids n M) x → Says (verdict-by n M x)
-  says x (nowhere clear) = says-equal (clear-scalar clear)
-  says x (least {l = l} p) = says-different l (λ scalar. true≢false (sym (p .passes) ∙ scalar-clear scalar l (p .long))) p
+module _ (n : ℕ) (us vs : List Gate) (fit : All-fit n vs) where
+  abbrev W : Matrix
+  W = miter n us vs .entries
 
-  pub verdict-says : Says (verdict n M)
+  says : (x : Option Bits) → Searched (levels n) (forbids n W) x → Says n us vs (verdict-by n W x)
+  says x (nowhere clear) =
+      let scalar = clear-scalar n W clear in
+      says-equal (equal-iff-scalar n us vs fit .1 scalar)
+      (subst (Turns n us vs (corner n W)) (sym (miter-power n us vs)) (scalar-turns n us vs fit scalar))
+  says x (least {l = l} low) = says-different unequal l low
+    where
+      unequal : Equal n us vs → ⊥
+      unequal equal = true≢false (sym (low .passes) ∙ scalar-clear n W (equal-iff-scalar n us vs fit .0 equal) l (low .long))
+
+  pub verdict-says : Says n us vs (verdict n W)
   unfolding verdict
-  verdict-says = says (lowest (levels n) (forbids n M)) (lowest-searched (levels n) (forbids n M))
+  verdict-says = says (lowest (levels n) (forbids n W)) (lowest-searched (levels n) (forbids n W))
+
+  -- equal exactly if the lists are
+  pub verdict-equal-iff : ((z : Entry) × (verdict n W ≡ equal-with z)) ↔ Equal n us vs
+  verdict-equal-iff = by-says (verdict n W) verdict-says
+    where
+      clash : (d : Difference) (z : Entry) → Different d ≡ equal-with z → ⊥
+      clash d z e = let impossible : _≡_ {A = ℕ} 0 1 = cc in omega arith
+
+      by-says : (v : Verdict) → Says n us vs v → ((z : Entry) × (v ≡ equal-with z)) ↔ Equal n us vs
+      by-says v (says-equal equal turns) = (λ given. equal, λ given. (corner n W, refl))
+      by-says v (says-different unequal l low) = (λ given. absurd (clash (difference n W l) (given .0) (given .1)), λ equal. absurd (unequal equal))

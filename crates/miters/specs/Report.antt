@@ -36,11 +36,15 @@ abbrev pub lowest : ℕ → (Bits → Bool) → Option Bits
 lowest zero test = cond (test []) (some []) none
 lowest (suc k) test = lower (lowest k (λ l. test (false ∷ l))) (lowest k (λ l. test (true ∷ l)))
 
--- "equal with its factor, different with row, column, entry and the corner entry (row 0, column 0)";
--- "The factor is the corner entry."; "Different shows the lowest place that is .."
+-- "different with row, column, entry and the corner entry (row 0, column 0)"
+abbrev pub difference : ℕ → Matrix → Bits → Difference
+difference n M l = record { row = number (rows l); column = number (columns l); entry = entries M l; corner = corner n M }
+
+-- "The factor is the corner entry."; "Different shows the lowest place that is off the diagonal and not zero, or on it and
+-- unlike the corner."
 abbrev pub verdict-by : ℕ → Matrix → Option Bits → Verdict
 verdict-by n M none = Equal (corner n M)
-verdict-by n M (some l) = Different (record { row = number (rows l); column = number (columns l); entry = entries M l; corner = corner n M })
+verdict-by n M (some l) = Different (difference n M l)
 
 unfoldable pub verdict : ℕ → Matrix → Verdict
 verdict n M = verdict-by n M (lowest (levels n) (forbids n M))

@@ -1,0 +1,191 @@
+-- Any two runs that are not refused agree: one report and one used part, whatever the schedules, widths, stores and their
+-- earlier contents; and that part is the miter's reduced diagram.
+-- Assumes nothing.
+use mathlib.Core.Path.{_≡_, refl, sym, _∙_, ap, ap₂, subst}
+use mathlib.Core.Bool.{Bool, true, false, cond, _&&_, true≢false}
+use mathlib.Core.List.{List, [], _∷_, _++_, map, append-nil}
+use Prim.Native.Nat.{ℕ, zero, suc, _+_, _-_, _≤_}
+use native.Mathlib.Nat.{sub-self}
+use native.Mathlib.Omega.{arith}
+use lib.Dec.{eqb, leb, leb·suc-zero, leb·suc-suc}
+use lib.IntN.{ℤ, pos}
+use lib.ListN.{length, take, replicate, length-map}
+use borrow.Author.Tests.{eqb-true, leb-true}
+use Rattle.algebra.specs.declared.Entry.{Entry}
+use Rattle.algebra.specs.Entry.{𝟘}
+use Rattle.algebra.specs.Matrix.{Bits, Matrix}
+use Rattle.gates.specs.Gate.{Gate, inverse}
+use Rattle.schedules.specs.Schedule.{count, only-steps, fits}
+use Rattle.diagrams.specs.Diagram.{Ref, node, code, Node, Store, Diagram, ReducedOf, levels, entries, diagram}
+use Rattle.diagrams.specs.Columns.{Columns, column, held, cleared}
+use Rattle.diagrams.proofs.Tests.{both-true}
+use Rattle.diagrams.proofs.Columns.{take-column}
+use Rattle.diagrams.proofs.Diagrams.{diagram-unique}
+use Rattle.miters.specs.declared.Refusal.{Refusal}
+use Rattle.miters.specs.declared.Refusal.the-variants.{Step as at-step}
+use Rattle.miters.specs.declared.Verdict.the-variants.{Refused}
+use Rattle.miters.specs.declared.Report.{Report}
+use Rattle.miters.specs.Miter.{All-fit, Over, start, Step, left, right, stepped, run, steps, miter}
+use Rattle.miters.specs.Report.{finished, refused}
+use Rattle.miters.specs.Run.{Lent, in-width, has-room, Ended, done, stopped, follow, ended, Outcome, outcome, judged, used}
+use Rattle.miters.proofs.Schedules.{schedule-miter}
+use Rattle.miters.proofs.Roots.{miter-root}
+
+-- ---- a run that is not stopped takes all its steps
+
+abbrev Unstopped : Ended → Type 0
+Unstopped e = (r : Refusal) → e ≡ stopped r → ⊥
+
+-- a test that did not stop the run was passed
+passed : (b : Bool) (e : Ended) (r : Refusal) → Unstopped (cond b e (stopped r)) → (b ≡ true) × (cond b e (stopped r) ≡ e)
+passed true e r unstopped = (refl, refl)
+passed false e r unstopped = absurd (unstopped r refl)
+
+module _ (lent : Lent) (n : ℕ) where
+  -- all steps are taken, and the result has room
+  abbrev Finishes : Ended → ℕ → Over → Type 0
+  Finishes e steps M = (e ≡ done steps M) × (has-room lent n (M .entries) ≡ true)
+
+  follow-finishes : (before : ℕ) (ss : List Step) (M : Over) → has-room lent n (M .entries) ≡ true → Unstopped (follow lent n before ss M)
+      → Finishes (follow lent n before ss M) (before + length ss) (run n ss M)
+  follow-finishes before [] M room unstopped = (ap (λ (k : ℕ). done k M) (omega arith), room)
+  follow-finishes before (s ∷ ss) M room unstopped =
+      let next = stepped n s M in
+      let rest = follow lent n (suc before) ss next in
+      let wide = passed (in-width lent n (next .entries)) _ (at-step 13 before) unstopped in
+      let roomy = passed (has-room lent n (next .entries)) rest (at-step 14 before) (subst Unstopped (wide .1) unstopped) in
+      let e = wide .1 ∙ roomy .1 in
+      let further = follow-finishes (suc before) ss next (roomy .0) (subst Unstopped e unstopped) in
+      (e ∙ further .0 ∙ ap (λ (k : ℕ). done k (run n ss next)) (omega arith), further .1)
+
+  ended-finishes : (ss : List Step) → Unstopped (ended lent n ss) → Finishes (ended lent n ss) (length ss) (run n ss start)
+  unfolding ended
+  ended-finishes ss unstopped =
+      let roomy = passed (has-room lent n (start .entries)) (follow lent n 0 ss start) (at-step 14 0) unstopped in
+      let further = follow-finishes 0 ss start (roomy .0) (subst Unstopped (roomy .1) unstopped) in
+      (roomy .1 ∙ further .0 ∙ ap (λ (k : ℕ). done k (run n ss start)) (omega arith), further .1)
+
+-- a schedule that fits takes every gate
+steps-counted : (s : List ℕ) (us vs : List Gate) → count 0 s ≡ length us → count 1 s ≡ length vs → only-steps s ≡ true → length (steps s us vs) ≡ length us + length vs
+steps-counted [] [] [] a b o = refl
+steps-counted [] [] (v ∷ vs) a b o = absurd (omega arith)
+steps-counted [] (u ∷ us) vs a b o = absurd (omega arith)
+steps-counted (zero ∷ s) [] vs a b o = absurd (omega arith)
+steps-counted (zero ∷ s) (u ∷ us) vs a b o = omega (arith, steps-counted s us vs (omega arith) b o)
+steps-counted (suc zero ∷ s) us [] a b o = absurd (omega arith)
+steps-counted (suc zero ∷ s) us (v ∷ vs) a b o = omega (arith, steps-counted s us vs a (omega arith) o)
+steps-counted (suc (suc x) ∷ s) us vs a b o =
+    absurd (true≢false (sym (both-true (leb (suc (suc x)) 1) (only-steps s) o .0) ∙ leb·suc-suc (suc x) 0 ∙ leb·suc-zero x))
+
+steps-length : (s : List ℕ) (us vs : List Gate) → fits (length us) (length vs) s ≡ true → length (steps s us vs) ≡ length us + length vs
+unfolding fits
+steps-length s us vs e =
+    let (u, rest) = both-true (eqb (count 0 s) (length us)) (eqb (count 1 s) (length vs) && only-steps s) e in
+    let (v, o) = both-true (eqb (count 1 s) (length vs)) (only-steps s) rest in
+    steps-counted s us vs (eqb-true (count 0 s) (length us) u) (eqb-true (count 1 s) (length vs) v) o
+
+-- ---- the used part of the first store
+
+used-column : {A B : Type 0} (nought : B) (N : ℕ) (f : A → B) (l : List A) → take (length l) (column nought N (map f l)) ≡ column nought (length l) (map f l)
+used-column {A} {B} nought N f l =
+    let len : length (map f l) ≡ length l = length-map l f in
+    let none-left : length l - length (map f l) ≡ 0 = omega arith in
+    ap (λ (k : ℕ). take k (column nought N (map f l))) (sym len)
+    ∙ take-column nought N (map f l)
+    ∙ sym (append-nil (map f l))
+    ∙ ap (λ (k : ℕ). map f l ++ replicate k nought) (sym none-left)
+
+used-held : (lent : Lent) (n k : ℕ) (M : Over) → let s = diagram n (M .entries) .store in
+    used (outcome lent n (done k M)) ≡ held (length (s .nodes)) (length (s .values)) s
+unfolding used held finished
+used-held lent n k M =
+    let s = diagram n (M .entries) .store in
+    λ i. record {
+      level = used-column 0 (lent .nodes) (λ (m : Node). m .level) (s .nodes) i;
+      low = used-column 0 (lent .nodes) (λ (m : Node). code (m .low)) (s .nodes) i;
+      high = used-column 0 (lent .nodes) (λ (m : Node). code (m .high)) (s .nodes) i;
+      a = used-column (pos 0) (lent .values) (λ (x : Entry). x .a) (s .values) i;
+      b = used-column (pos 0) (lent .values) (λ (x : Entry). x .b) (s .values) i;
+      c = used-column (pos 0) (lent .values) (λ (x : Entry). x .c) (s .values) i;
+      d = used-column (pos 0) (lent .values) (λ (x : Entry). x .d) (s .values) i;
+    }
+
+-- ---- what a run leaves that is not refused
+
+abbrev pub Answered : Outcome → Type 0
+Answered o = (r : Refusal) → o .report .verdict ≡ Refused r → ⊥
+
+answered-unstopped : (lent : Lent) (n : ℕ) (e : Ended) → Answered (outcome lent n e) → Unstopped e
+unfolding refused
+answered-unstopped lent n e answered r is = answered r (ap (λ (x : Ended). outcome lent n x .report .verdict) is)
+
+pub record Leaves (lent : Lent) (n : ℕ) (us vs : List Gate) (o : Outcome) : Type 0 where
+  pub report-is : o .report ≡ finished n (length us + length vs) (miter n us vs)
+  pub first-is : o .first ≡ held (lent .nodes) (lent .values) (diagram n (miter n us vs .entries) .store)
+  pub second-is : o .second ≡ cleared (lent .nodes) (lent .values)
+  pub nodes-fit : length (diagram n (miter n us vs .entries) .store .nodes) ≤ lent .nodes
+  pub values-fit : length (diagram n (miter n us vs .entries) .store .values) ≤ lent .values
+
+-- the outcome is that of the miter
+judged-miter : (lent : Lent) (n : ℕ) (s : List ℕ) (us vs : List Gate) (first second : Columns) → fits (length us) (length vs) s ≡ true
+    → Answered (judged lent n s us vs first second)
+    → (judged lent n s us vs first second ≡ outcome lent n (done (length us + length vs) (miter n us vs))) × (has-room lent n (miter n us vs .entries) ≡ true)
+unfolding judged
+judged-miter lent n s us vs first second fit answered =
+    let finishes = ended-finishes lent n (steps s us vs) (answered-unstopped lent n (ended lent n (steps s us vs)) answered) in
+    let is = schedule-miter n s us vs fit in
+    (ap (outcome lent n) (finishes .0 ∙ ap₂ done (steps-length s us vs fit) is), ap (λ (M : Over). has-room lent n (M .entries)) (sym is) ∙ finishes .1)
+
+pub run-leaves : (lent : Lent) (n : ℕ) (s : List ℕ) (us vs : List Gate) (first second : Columns) → fits (length us) (length vs) s ≡ true
+    → Answered (judged lent n s us vs first second) → Leaves lent n us vs (judged lent n s us vs first second)
+run-leaves lent n s us vs first second fit answered =
+    let (is, room) = judged-miter lent n s us vs first second fit answered in
+    let store = diagram n (miter n us vs .entries) .store in
+    let (nodes, values) = both-true (leb (length (store .nodes)) (lent .nodes)) (leb (length (store .values)) (lent .values)) room in
+    record {
+      report-is = ap (λ (o : Outcome). o .report) is;
+      first-is = ap (λ (o : Outcome). o .first) is;
+      second-is = ap (λ (o : Outcome). o .second) is;
+      nodes-fit = leb-true (length (store .nodes)) (lent .nodes) nodes;
+      values-fit = leb-true (length (store .values)) (lent .values) values;
+    }
+
+-- ---- two runs
+
+-- two outcomes agree in every field of the report and in the used part of the first store, which is the diagram D: its nodes
+-- and values are as many as the report says and stand in their slots, and its root is the last node; the second stores are all 0
+pub record Agree (lent lent′ : Lent) (D : Diagram Entry) (o p : Outcome) : Type 0 where
+  pub reports : o .report ≡ p .report
+  pub used-parts : used o ≡ used p
+  pub used-is : used o ≡ held (length (D .store .nodes)) (length (D .store .values)) (D .store)
+  pub nodes-are : o .report .nodes ≡ length (D .store .nodes)
+  pub values-are : o .report .values ≡ length (D .store .values)
+  pub root-is : (i : ℕ) × (D .root ≡ node i) × (suc i ≡ length (D .store .nodes))
+  pub second-is : o .second ≡ cleared (lent .nodes) (lent .values)
+  pub second-is′ : p .second ≡ cleared (lent′ .nodes) (lent′ .values)
+
+-- over all lists whose gates fit, all schedules that fit, all widths and store sizes, and all earlier contents
+pub two-runs : (n : ℕ) (us vs : List Gate) → All-fit (suc n) us → All-fit (suc n) vs
+    → (D : Diagram Entry) → ReducedOf 𝟘 (levels (suc n)) (entries (miter (suc n) us vs .entries)) D
+    → (lent lent′ : Lent) (s s′ : List ℕ) → fits (length us) (length vs) s ≡ true → fits (length us) (length vs) s′ ≡ true
+    → (first second first′ second′ : Columns)
+    → let o = judged lent (suc n) s us vs first second in let p = judged lent′ (suc n) s′ us vs first′ second′ in
+    Answered o → Answered p → Agree lent lent′ D o p
+unfolding finished
+two-runs n us vs fit-u fit-v D reduced lent lent′ s s′ fit fit′ first second first′ second′ answered answered′ =
+    let M = miter (suc n) us vs in
+    let is-D : diagram (suc n) (M .entries) ≡ D = sym (diagram-unique (suc n) (M .entries) D reduced) in
+    let is = judged-miter lent (suc n) s us vs first second fit answered .0 in
+    let is′ = judged-miter lent′ (suc n) s′ us vs first′ second′ fit′ answered′ .0 in
+    let used-held₁ = ap used is ∙ used-held lent (suc n) (length us + length vs) M in
+    let used-held₂ = ap used is′ ∙ used-held lent′ (suc n) (length us + length vs) M in
+    record {
+      reports = ap (λ (x : Outcome). x .report) is ∙ sym (ap (λ (x : Outcome). x .report) is′);
+      used-parts = used-held₁ ∙ sym used-held₂;
+      used-is = used-held₁ ∙ ap (λ (x : Diagram Entry). held (length (x .store .nodes)) (length (x .store .values)) (x .store)) is-D;
+      nodes-are = ap (λ (x : Outcome). x .report .nodes) is ∙ ap (λ (x : Diagram Entry). length (x .store .nodes)) is-D;
+      values-are = ap (λ (x : Outcome). x .report .values) is ∙ ap (λ (x : Diagram Entry). length (x .store .values)) is-D;
+      root-is = subst (λ (x : Diagram Entry). (i : ℕ) × (x .root ≡ node i) × (suc i ≡ length (x .store .nodes))) is-D (miter-root n us vs fit-u fit-v);
+      second-is = ap (λ (x : Outcome). x .second) is;
+      second-is′ = ap (λ (x : Outcome). x .second) is′;
+    }
