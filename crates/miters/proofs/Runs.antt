@@ -4,8 +4,8 @@
 use mathlib.Core.Path.{_≡_, refl, sym, _∙_, ap, ap₂, subst}
 use mathlib.Core.Bool.{Bool, true, false, cond, _&&_, true≢false}
 use mathlib.Core.List.{List, [], _∷_, _++_, map, append-nil}
-use Prim.Native.Nat.{ℕ, zero, suc, _+_, _-_, _≤_}
-use native.Mathlib.Nat.{sub-self}
+use Prim.Native.Nat.{ℕ, zero, suc, _+_, _-_, _<_, _≤_}
+use native.Mathlib.Nat.{add-zero}
 use native.Mathlib.Omega.{arith}
 use lib.Dec.{eqb, leb, leb·suc-zero, leb·suc-suc}
 use lib.IntN.{ℤ, pos}
@@ -31,42 +31,101 @@ use Rattle.miters.specs.Run.{Lent, in-width, has-room, Ended, done, stop
 use Rattle.miters.proofs.Schedules.{schedule-miter}
 use Rattle.miters.proofs.Roots.{miter-root}
 
--- ---- a run that is not stopped takes all its steps
+-- ---- how a run ends
 
 abbrev Unstopped : Ended → Type 0
 Unstopped e = (r : Refusal) → e ≡ stopped r → ⊥
 
--- a test that did not stop the run was passed
-passed : (b : Bool) (e : Ended) (r : Refusal) → Unstopped (cond b e (stopped r)) → (b ≡ true) × (cond b e (stopped r) ≡ e)
-passed true e r unstopped = (refl, refl)
-passed false e r unstopped = absurd (unstopped r refl)
-
 module _ (lent : Lent) (n : ℕ) where
-  -- all steps are taken, and the result has room
-  abbrev Finishes : Ended → ℕ → Over → Type 0
-  Finishes e steps M = (e ≡ done steps M) × (has-room lent n (M .entries) ≡ true)
+  -- what the first k steps come to
+  abbrev pub after : Over → List Step → ℕ → Matrix
+  after M ss k = run n (take k ss) M .entries
 
-  follow-finishes : (before : ℕ) (ss : List Step) (M : Over) → has-room lent n (M .entries) ≡ true → Unstopped (follow lent n before ss M)
-      → Finishes (follow lent n before ss M) (before + length ss) (run n ss M)
-  follow-finishes before [] M room unstopped = (ap (λ (k : ℕ). done k M) (omega arith), room)
-  follow-finishes before (s ∷ ss) M room unstopped =
-      let next = stepped n s M in
-      let rest = follow lent n (suc before) ss next in
-      let wide = passed (in-width lent n (next .entries)) _ (at-step 13 before) unstopped in
-      let roomy = passed (has-room lent n (next .entries)) rest (at-step 14 before) (subst Unstopped (wide .1) unstopped) in
-      let e = wide .1 ∙ roomy .1 in
-      let further = follow-finishes (suc before) ss next (roomy .0) (subst Unstopped e unstopped) in
-      (e ∙ further .0 ∙ ap (λ (k : ℕ). done k (run n ss next)) (omega arith), further .1)
+  -- the products of the first k steps are in the width and have room
+  abbrev pub Pass : Over → List Step → ℕ → Type 0
+  Pass M ss k = (i : ℕ) → i < k → (in-width lent n (after M ss (suc i)) ≡ true) × (has-room lent n (after M ss (suc i)) ≡ true)
 
-  ended-finishes : (ss : List Step) → Unstopped (ended lent n ss) → Finishes (ended lent n ss) (length ss) (run n ss start)
+  -- all steps are taken; or those before step k + 1, whose product has a number outside the width, or is within it and has no room
+  pub data Follows (before : ℕ) (M : Over) (ss : List Step) : Ended → Type 0 where
+    finishes : Pass M ss (length ss) → has-room lent n (run n ss M .entries) ≡ true → Follows before M ss (done (before + length ss) (run n ss M))
+    too-wide : (k : ℕ) → k < length ss → Pass M ss k → in-width lent n (after M ss (suc k)) ≡ false
+        → Follows before M ss (stopped (at-step 13 (before + k)))
+    too-full : (k : ℕ) → k < length ss → Pass M ss k → in-width lent n (after M ss (suc k)) ≡ true → has-room lent n (after M ss (suc k)) ≡ false
+        → Follows before M ss (stopped (at-step 14 (before + k)))
+
+  pass-none : (M : Over) (ss : List Step) → Pass M ss 0
+  pass-none M ss i h = absurd (omega arith)
+
+  module _ (before : ℕ) (M : Over) (s : Step) (ss : List Step) where
+    abbrev next : Over
+    next = stepped n s M
+
+    pass-cons : (k : ℕ) → in-width lent n (next .entries) ≡ true → has-room lent n (next .entries) ≡ true → Pass next ss k → Pass M (s ∷ ss) (suc k)
+    pass-cons k wide room pass zero h = (wide, room)
+    pass-cons k wide room pass (suc i) h = pass i (omega arith)
+
+    follows-cons : {e : Ended} → in-width lent n (next .entries) ≡ true → has-room lent n (next .entries) ≡ true
+        → Follows (suc before) next ss e → Follows before M (s ∷ ss) e
+    follows-cons wide room (finishes pass last) =
+        subst (λ (k : ℕ). Follows before M (s ∷ ss) (done k (run n ss next))) (omega arith) (finishes (pass-cons (length ss) wide room pass) last)
+    follows-cons wide room (too-wide k h pass out) =
+        subst (λ (i : ℕ). Follows before M (s ∷ ss) (stopped (at-step 13 i))) (omega arith)
+        (too-wide (suc k) (omega arith) (pass-cons k wide room pass) out)
+    follows-cons wide room (too-full k h pass fit out) =
+        subst (λ (i : ℕ). Follows before M (s ∷ ss) (stopped (at-step 14 i))) (omega arith)
+        (too-full (suc k) (omega arith) (pass-cons k wide room pass) fit out)
+
+    follow-too-wide : in-width lent n (next .entries) ≡ false → follow lent n before (s ∷ ss) M ≡ stopped (at-step 13 before)
+    follow-too-wide wide = rw wide
+
+    follow-too-full : in-width lent n (next .entries) ≡ true → has-room lent n (next .entries) ≡ false
+        → follow lent n before (s ∷ ss) M ≡ stopped (at-step 14 before)
+    follow-too-full wide room = rw (wide, room)
+
+    follow-on : in-width lent n (next .entries) ≡ true → has-room lent n (next .entries) ≡ true
+        → follow lent n before (s ∷ ss) M ≡ follow lent n (suc before) ss next
+    follow-on wide room = rw (wide, room)
+
+    follows-step : (a b : Bool) → in-width lent n (next .entries) ≡ a → has-room lent n (next .entries) ≡ b
+        → (has-room lent n (next .entries) ≡ true → Follows (suc before) next ss (follow lent n (suc before) ss next))
+        → Follows before M (s ∷ ss) (follow lent n before (s ∷ ss) M)
+    follows-step false b wide room onward = subst (Follows before M (s ∷ ss))
+        (ap (λ (i : ℕ). stopped (at-step 13 i)) (add-zero before) ∙ sym (follow-too-wide wide)) (too-wide 0 (omega arith) (pass-none M (s ∷ ss)) wide)
+    follows-step true false wide room onward = subst (Follows before M (s ∷ ss))
+        (ap (λ (i : ℕ). stopped (at-step 14 i)) (add-zero before) ∙ sym (follow-too-full wide room)) (too-full 0 (omega arith) (pass-none M (s ∷ ss)) wide room)
+    follows-step true true wide room onward = subst (Follows before M (s ∷ ss)) (sym (follow-on wide room)) (follows-cons wide room (onward room))
+
+  follow-follows : (before : ℕ) (ss : List Step) (M : Over) → has-room lent n (M .entries) ≡ true → Follows before M ss (follow lent n before ss M)
+  follow-follows before [] M room = subst (λ (k : ℕ). Follows before M [] (done k M)) (add-zero before) (finishes (pass-none M []) room)
+  follow-follows before (s ∷ ss) M room =
+      let M′ = stepped n s M in
+      follows-step before M s ss (in-width lent n (M′ .entries)) (has-room lent n (M′ .entries)) refl refl (follow-follows (suc before) ss M′)
+
+  -- the identity has no room, or the steps are followed from it
+  pub data Ends (ss : List Step) : Ended → Type 0 where
+    full-at-once : has-room lent n (start .entries) ≡ false → Ends ss (stopped (at-step 14 0))
+    follows : {e : Ended} → has-room lent n (start .entries) ≡ true → Follows 0 start ss e → Ends ss e
+
+  pub ended-ends : (ss : List Step) → Ends ss (ended lent n ss)
   unfolding ended
-  ended-finishes ss unstopped =
-      let roomy = passed (has-room lent n (start .entries)) (follow lent n 0 ss start) (at-step 14 0) unstopped in
-      let further = follow-finishes 0 ss start (roomy .0) (subst Unstopped (roomy .1) unstopped) in
-      (roomy .1 ∙ further .0 ∙ ap (λ (k : ℕ). done k (run n ss start)) (omega arith), further .1)
+  ended-ends ss = by-test (has-room lent n (start .entries)) refl (follow-follows 0 ss start)
+    where
+      by-test : (b : Bool) → has-room lent n (start .entries) ≡ b
+          → (has-room lent n (start .entries) ≡ true → Follows 0 start ss (follow lent n 0 ss start))
+          → Ends ss (cond b (follow lent n 0 ss start) (stopped (at-step 14 0)))
+      by-test true room onward = follows room (onward room)
+      by-test false room onward = full-at-once room
+
+  unstopped-done : (ss : List Step) {e : Ended} → Ends ss e → Unstopped e
+      → (e ≡ done (length ss) (run n ss start)) × (has-room lent n (run n ss start .entries) ≡ true)
+  unstopped-done ss (full-at-once room) unstopped = absurd (unstopped _ refl)
+  unstopped-done ss (follows room (finishes pass last)) unstopped = (ap (λ (k : ℕ). done k (run n ss start)) (omega arith), last)
+  unstopped-done ss (follows room (too-wide k h pass out)) unstopped = absurd (unstopped _ refl)
+  unstopped-done ss (follows room (too-full k h pass fit out)) unstopped = absurd (unstopped _ refl)
 
 -- a schedule that fits takes every gate
-steps-counted : (s : List ℕ) (us vs : List Gate) → count 0 s ≡ length us → count 1 s ≡ length vs → only-steps s ≡ true → length (steps s us vs) ≡ length us + length vs
+steps-counted : (s : List ℕ) (us vs : List Gate) → count 0 s ≡ length us → count 1 s ≡ length vs → only-steps s ≡ true
+    → length (steps s us vs) ≡ length us + length vs
 steps-counted [] [] [] a b o = refl
 steps-counted [] [] (v ∷ vs) a b o = absurd (omega arith)
 steps-counted [] (u ∷ us) vs a b o = absurd (omega arith)
@@ -132,9 +191,10 @@ judged-miter : (lent : Lent) (n : ℕ) (s : List ℕ) (us vs : List Gate) (first
     → (judged lent n s us vs first second ≡ outcome lent n (done (length us + length vs) (miter n us vs))) × (has-room lent n (miter n us vs .entries) ≡ true)
 unfolding judged
 judged-miter lent n s us vs first second fit answered =
-    let finishes = ended-finishes lent n (steps s us vs) (answered-unstopped lent n (ended lent n (steps s us vs)) answered) in
+    let ss = steps s us vs in
+    let all-taken = unstopped-done lent n ss (ended-ends lent n ss) (answered-unstopped lent n (ended lent n ss) answered) in
     let is = schedule-miter n s us vs fit in
-    (ap (outcome lent n) (finishes .0 ∙ ap₂ done (steps-length s us vs fit) is), ap (λ (M : Over). has-room lent n (M .entries)) (sym is) ∙ finishes .1)
+    (ap (outcome lent n) (all-taken .0 ∙ ap₂ done (steps-length s us vs fit) is), ap (λ (M : Over). has-room lent n (M .entries)) (sym is) ∙ all-taken .1)
 
 pub run-leaves : (lent : Lent) (n : ℕ) (s : List ℕ) (us vs : List Gate) (first second : Columns) → fits (length us) (length vs) s ≡ true
     → Answered (judged lent n s us vs first second) → Leaves lent n us vs (judged lent n s us vs first second)

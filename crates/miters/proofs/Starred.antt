@@ -52,25 +52,7 @@ alone width u v = record { width = width; qubits = 1; u = map (λ k. on k 0) u; 
 abbrev two : List Gate → List Gate → Circuit
 two u v = record { width = 32; qubits = 2; u = u; v = v }
 
-abbrev questions : List Question
-questions =
-    report-of (alone 32 [] [])
-    ∷ store-of (alone 32 [] [])
-    ∷ report-of (alone 32 (H ∷ H ∷ []) [])
-    ∷ report-of (alone 32 (X ∷ []) [])
-    ∷ report-of (alone 32 (T ∷ []) (S ∷ []))
-    ∷ report-of (alone 32 (X ∷ Z ∷ []) (Z ∷ X ∷ []))
-    ∷ report-of (alone 32 (Y ∷ []) (Z ∷ X ∷ []))
-    ∷ report-of (alone 32 (Z ∷ X ∷ []) (Y ∷ []))
-    ∷ report-of (two (pair CNOT 0 1 ∷ []) (on H 1 ∷ pair CZ 0 1 ∷ on H 1 ∷ []))
-    ∷ report-of (two (pair CNOT 0 1 ∷ []) (pair CNOT 1 0 ∷ []))
-    ∷ report-of (alone 2 (H ∷ H ∷ []) [])
-    ∷ report-of (alone 3 (H ∷ H ∷ []) [])
-    ∷ report-of (alone 2 (X ∷ Z ∷ X ∷ Z ∷ H ∷ H ∷ []) [])
-    ∷ report-of (alone 2 (X ∷ Z ∷ X ∷ Z ∷ H ∷ H ∷ Z ∷ []) [])
-    ∷ []
-
--- ---- what the paper says
+-- ---- the list
 
 abbrev finishes : Verdict → ℕ → ℕ → ℕ → ℕ → Answer
 finishes verdict exponent steps nodes values = reports (record { verdict = verdict; exponent = exponent; steps = steps; nodes = nodes; values = values })
@@ -84,32 +66,46 @@ differs row column entry corner = Different (record { row = row; column = column
 abbrev plain : ℤ → Entry
 plain d = entry (pos 0) (pos 0) (pos 0) d
 
-abbrev answers : List Answer
-answers =
-    finishes (Equal (plain (pos 1))) 0 0 3 2
-    ∷ holds (record {
-      level = 1 ∷ 1 ∷ 0 ∷ [];
-      low = 0 ∷ 2 ∷ 1 ∷ [];
-      high = 2 ∷ 0 ∷ 3 ∷ [];
-      a = pos 0 ∷ pos 0 ∷ [];
-      b = pos 0 ∷ pos 0 ∷ [];
-      c = pos 0 ∷ pos 0 ∷ [];
-      d = pos 1 ∷ pos 0 ∷ [];
-    })
-    ∷ finishes (Equal (plain (pos 2))) 2 2 3 2
-    ∷ finishes (differs 0 1 (plain (pos 1)) (plain (pos 0))) 0 1 3 2
-    ∷ finishes (differs 1 1 (entry (negsuc 0) (pos 0) (pos 0) (pos 0)) (plain (pos 1))) 0 2 3 3
-    ∷ finishes (Equal (plain (negsuc 0))) 0 4 3 2
-    ∷ finishes (Equal (entry (pos 0) (pos 1) (pos 0) (pos 0))) 0 3 3 2
-    ∷ finishes (Equal (entry (pos 0) (negsuc 0) (pos 0) (pos 0))) 0 3 3 2
-    ∷ finishes (Equal (plain (pos 2))) 2 4 6 2
-    ∷ finishes (differs 1 1 (plain (pos 0)) (plain (pos 1))) 0 2 9 2
-    ∷ stops 13 1
-    ∷ finishes (Equal (plain (pos 2))) 2 2 3 2
-    ∷ finishes (Equal (plain (negsuc 1))) 2 6 3 2
-    ∷ stops 13 6
+-- each circuit of the paper, by its number, with what the paper says of it
+abbrev circuits : List (Question × Answer)
+circuits =
+    -- 1, and its store: values (0,0,0,1), (0,0,0,0), nodes (1,0,2), (1,2,0), (0,1,3)
+    (report-of (alone 32 [] []), finishes (Equal (plain (pos 1))) 0 0 3 2)
+    ∷ (
+      store-of (alone 32 [] []),
+      holds (record {
+        level = 1 ∷ 1 ∷ 0 ∷ [];
+        low = 0 ∷ 2 ∷ 1 ∷ [];
+        high = 2 ∷ 0 ∷ 3 ∷ [];
+        a = pos 0 ∷ pos 0 ∷ [];
+        b = pos 0 ∷ pos 0 ∷ [];
+        c = pos 0 ∷ pos 0 ∷ [];
+        d = pos 1 ∷ pos 0 ∷ [];
+      }),
+    )
+    -- 2
+    ∷ (report-of (alone 32 (H ∷ H ∷ []) []), finishes (Equal (plain (pos 2))) 2 2 3 2)
+    -- 3
+    ∷ (report-of (alone 32 (X ∷ []) []), finishes (differs 0 1 (plain (pos 1)) (plain (pos 0))) 0 1 3 2)
+    -- 4
+    ∷ (report-of (alone 32 (T ∷ []) (S ∷ [])), finishes (differs 1 1 (entry (negsuc 0) (pos 0) (pos 0) (pos 0)) (plain (pos 1))) 0 2 3 3)
+    -- 5
+    ∷ (report-of (alone 32 (X ∷ Z ∷ []) (Z ∷ X ∷ [])), finishes (Equal (plain (negsuc 0))) 0 4 3 2)
+    -- 6
+    ∷ (report-of (alone 32 (Y ∷ []) (Z ∷ X ∷ [])), finishes (Equal (entry (pos 0) (pos 1) (pos 0) (pos 0))) 0 3 3 2)
+    ∷ (report-of (alone 32 (Z ∷ X ∷ []) (Y ∷ [])), finishes (Equal (entry (pos 0) (negsuc 0) (pos 0) (pos 0))) 0 3 3 2)
+    -- 7
+    ∷ (report-of (two (pair CNOT 0 1 ∷ []) (on H 1 ∷ pair CZ 0 1 ∷ on H 1 ∷ [])), finishes (Equal (plain (pos 2))) 2 4 6 2)
+    -- 8
+    ∷ (report-of (two (pair CNOT 0 1 ∷ []) (pair CNOT 1 0 ∷ [])), finishes (differs 1 1 (plain (pos 0)) (plain (pos 1))) 0 2 9 2)
+    -- 9
+    ∷ (report-of (alone 2 (H ∷ H ∷ []) []), stops 13 1)
+    ∷ (report-of (alone 3 (H ∷ H ∷ []) []), finishes (Equal (plain (pos 2))) 2 2 3 2)
+    -- 10
+    ∷ (report-of (alone 2 (X ∷ Z ∷ X ∷ Z ∷ H ∷ H ∷ []) []), finishes (Equal (plain (negsuc 1))) 2 6 3 2)
+    ∷ (report-of (alone 2 (X ∷ Z ∷ X ∷ Z ∷ H ∷ H ∷ Z ∷ []) []), stops 13 6)
     ∷ []
 
-pub starred : map answer questions ≡ answers
+pub starred : map (λ row. answer (row .0)) circuits ≡ map (λ row. row .1) circuits
 unfolding judged ended finished refused verdict used held cleared reduce start stepped product total identity matrix inWidth 𝟘 𝟙 neg _⊕_ _⊗_ times-w8 turned
 starred = refl
