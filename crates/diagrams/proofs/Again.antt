@@ -1,7 +1,7 @@
 -- What `reduce` does to a store: it only appends, to reduce again changes nothing, and a level that is not asked for is skipped.
 -- Assumes nothing.
-use mathlib.Core.Path.{_≡_, refl, sym, _∙_, ap, subst, _≡⟨_⟩_, _∎}
-use mathlib.Core.Bool.{Bool, true, false, cond}
+use mathlib.Core.Path.{_≡_, refl, sym, _∙_, ap, subst}
+use mathlib.Core.Bool.{Bool, true, false}
 use mathlib.Core.List.{List, [], _∷_, _++_, append-assoc, append-nil}
 use Prim.Native.Nat.{ℕ, zero, suc}
 use lib.ListN.{length}
@@ -67,9 +67,9 @@ module _ {X : Type 0} where
           ∙ put-node-again n s t (subst (λ (D : Diagram X). Extends (D .store) t) (make-node-apart n s apart) g)
           ∙ ap (λ (D : Diagram X). rooted t (D .root)) (sym (make-node-apart n s apart))
 
-module _ {X : Type 0} {same : X → X → Bool} (𝓓 : Decides same) where
-  -- ---- one level of a reduction
+-- ---- one level of a reduction
 
+module _ {X : Type 0} (same : X → X → Bool) where
   pub reduce-step : (left level : ℕ) (f : Bits → X) (s s₁ s₂ : Store X) (low high : Ref)
       → reduce same left (suc level) (λ l. f (false ∷ l)) s ≡ rooted s₁ low
       → reduce same left (suc level) (λ l. f (true ∷ l)) s₁ ≡ rooted s₂ high
@@ -94,6 +94,11 @@ module _ {X : Type 0} {same : X → X → Bool} (𝓓 : Decides same) where
       (reduce-ext left (suc level) (λ l. f (false ∷ l)) (λ l. g (false ∷ l)) s (λ l e. alike (false ∷ l) (ap suc e)))
       (reduce-ext left (suc level) (λ l. f (true ∷ l)) (λ l. g (true ∷ l)) (low .store) (λ l e. alike (true ∷ l) (ap suc e)))
 
+-- what a computed table may hold: in this store, f is known to be r
+abbrev pub Known : {X : Type 0} → (X → X → Bool) → ℕ → ℕ → (Bits → X) → Store X → Ref → Type 0
+Known same left level f s r = reduce same left level f s ≡ rooted s r
+
+module _ {X : Type 0} {same : X → X → Bool} (𝓓 : Decides same) where
   -- ---- a reduction only appends
 
   pub put-value-extends : (x : X) (s : Store X) → Extends s (put-value same x s .store)
@@ -130,20 +135,18 @@ module _ {X : Type 0} {same : X → X → Bool} (𝓓 : Decides same) where
       let n : Node = branch level (low .root) (high .root) in
       let from-high : Extends (high .store) t = extends-trans (make-node-extends n (high .store)) g in
       let from-low : Extends (low .store) t = extends-trans (reduce-extends left (suc level) (λ l. f (true ∷ l)) (low .store)) from-high in
-      reduce-step left level f t t t (low .root) (high .root)
+      reduce-step same left level f t t t (low .root) (high .root)
       (reduce-again left (suc level) (λ l. f (false ∷ l)) s t from-low)
       (reduce-again left (suc level) (λ l. f (true ∷ l)) (low .store) t from-high)
       ∙ make-node-again n (high .store) t g
 
-  -- ---- what a computed table may hold: in this store, f is known to be r
+  -- ---- what is known stays known
 
-  abbrev pub Known : ℕ → ℕ → (Bits → X) → Store X → Ref → Type 0
-  Known left level f s r = reduce same left level f s ≡ rooted s r
+  pub known-made : (left level : ℕ) (f : Bits → X) (s : Store X)
+      → let D = reduce same left level f s in Known same left level f (D .store) (D .root)
+  known-made left level f s = let D = reduce same left level f s in reduce-again left level f s (D .store) (extends-refl (D .store))
 
-  pub known-made : (left level : ℕ) (f : Bits → X) (s : Store X) → Known left level f (reduce same left level f s .store) (reduce same left level f s .root)
-  known-made left level f s = reduce-again left level f s (reduce same left level f s .store) (extends-refl (reduce same left level f s .store))
-
-  pub known-extends : (left level : ℕ) (f : Bits → X) (s t : Store X) (r : Ref) → Known left level f s r → Extends s t → Known left level f t r
+  pub known-extends : (left level : ℕ) (f : Bits → X) (s t : Store X) (r : Ref) → Known same left level f s r → Extends s t → Known same left level f t r
   known-extends left level f s t r known g =
       reduce-again left level f s t (subst (λ (p : Diagram X). Extends (p .store) t) (sym known) g)
       ∙ ap (λ (p : Diagram X). rooted t (p .root)) known
@@ -153,9 +156,9 @@ module _ {X : Type 0} {same : X → X → Bool} (𝓓 : Decides same) where
   -- both halves come to one reference
   pub reduce-alike : (left level : ℕ) (f : Bits → X) (s t : Store X) (r : Ref)
       → reduce same left (suc level) (λ l. f (false ∷ l)) s ≡ rooted t r
-      → Known left (suc level) (λ l. f (true ∷ l)) t r
+      → Known same left (suc level) (λ l. f (true ∷ l)) t r
       → reduce same (suc left) level f s ≡ rooted t r
-  reduce-alike left level f s t r e₁ e₂ = reduce-step left level f s t t r r e₁ e₂ ∙ make-node-alike (branch level r r) t (ref-decides .reflexive r)
+  reduce-alike left level f s t r e₁ e₂ = reduce-step same left level f s t t r r e₁ e₂ ∙ make-node-alike (branch level r r) t (ref-decides .reflexive r)
 
   -- f does not depend on the first bit
   pub reduce-skip : (left level : ℕ) (f : Bits → X) (s : Store X) → ((l : Bits) → length l ≡ left → f (false ∷ l) ≡ f (true ∷ l))
@@ -163,5 +166,5 @@ module _ {X : Type 0} {same : X → X → Bool} (𝓓 : Decides same) where
   reduce-skip left level f s alike =
       let low : Diagram X = reduce same left (suc level) (λ l. f (false ∷ l)) s in
       reduce-alike left level f s (low .store) (low .root) refl
-      (reduce-ext left (suc level) (λ l. f (true ∷ l)) (λ l. f (false ∷ l)) (low .store) (λ l e. sym (alike l e))
+      (reduce-ext same left (suc level) (λ l. f (true ∷ l)) (λ l. f (false ∷ l)) (low .store) (λ l e. sym (alike l e))
       ∙ known-made left (suc level) (λ l. f (false ∷ l)) s)

@@ -1,14 +1,14 @@
 -- Columns: their lengths, their used slots, and how one grows in place.
 -- Assumes nothing.
-use mathlib.Core.Path.{_≡_, refl, sym, _∙_, ap}
+use mathlib.Core.Path.{_≡_, sym, _∙_, ap}
 use mathlib.Core.List.{List, [], _∷_, _++_, append-assoc}
-use Prim.Native.Nat.{ℕ, suc, _+_, _-_, _<_, _≤_}
+use Prim.Native.Nat.{ℕ, suc, _-_, _<_, _≤_}
 use native.Mathlib.Omega.{arith}
 use native.Mathlib.Nat.{sub-zero}
-use lib.ListN.{length, getD, take, set, replicate, length-append, length-replicate, List·getD-append}
+use lib.ListN.{length, take, set, replicate, length-append, length-replicate}
 use lib.Seq.{take-append-seam, set-append-seam}
 use Rattle.diagrams.specs.Diagram.{empty}
-use Rattle.diagrams.specs.Columns.{Columns, column, held, cleared}
+use Rattle.diagrams.specs.Columns.{column, held, cleared}
 
 module _ {A : Type 0} (nought : A) (N : ℕ) (l : List A) where
   pub length-column : length l ≤ N → length (column nought N l) ≡ N
@@ -16,9 +16,6 @@ module _ {A : Type 0} (nought : A) (N : ℕ) (l : List A) where
 
   pub take-column : take (length l) (column nought N l) ≡ l
   take-column = take-append-seam l (replicate (N - length l) nought)
-
-  pub getD-column : (i : ℕ) → i < length l → getD (column nought N l) i nought ≡ getD l i nought
-  getD-column i h = List·getD-append l (replicate (N - length l) nought) nought i h
 
   -- to append is to set the first unused slot
   pub column-snoc : (x : A) → length l < N → set (column nought N l) (length l) x ≡ column nought N (l ++ (x ∷ []))

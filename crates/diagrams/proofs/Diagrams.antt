@@ -1,12 +1,12 @@
 -- A matrix has one reduced diagram, numbered as the walk finishes it, and `diagram` is it.
 -- Assumes nothing.
-use mathlib.Core.Path.{_≡_, refl, sym, _∙_, ap₂}
+use mathlib.Core.Path.{_≡_, sym, _∙_, ap₂}
 use Prim.Native.Nat.{ℕ}
 use lib.ListN.{length}
 use Rattle.algebra.specs.declared.Entry.{Entry}
 use Rattle.algebra.specs.Entry.{𝟘}
 use Rattle.algebra.specs.Matrix.{Bits, Matrix}
-use Rattle.diagrams.specs.Diagram.{Diagram, reached, ReducedOf, levels, place, rows, columns, entries, empty, diagram}
+use Rattle.diagrams.specs.Diagram.{Diagram, reached, ReducedOf, levels, place, rows, columns, entries, same-entry, empty, diagram}
 use Rattle.diagrams.proofs.Tests.{entry-decides}
 use Rattle.diagrams.proofs.Again.{reduce-ext}
 use Rattle.diagrams.proofs.Unique.{reduced-unique}
@@ -28,4 +28,4 @@ diagram-gives n M r c e f =
 -- only the entries on n qubits count
 pub diagram-ext : (n : ℕ) (M N : Matrix) → ((r c : Bits) → length r ≡ n → length c ≡ n → M r c ≡ N r c) → diagram n M ≡ diagram n N
 diagram-ext n M N alike =
-    reduce-ext entry-decides (levels n) 0 (entries M) (entries N) empty (λ l e. alike (rows l) (columns l) (length-halves n l e .0) (length-halves n l e .1))
+    reduce-ext same-entry (levels n) 0 (entries M) (entries N) empty (λ l e. alike (rows l) (columns l) (length-halves n l e .0) (length-halves n l e .1))

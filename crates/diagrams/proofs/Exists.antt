@@ -12,12 +12,12 @@ use lib.Dec.{eqb}
 use borrow.Author.Tests.{eq-eqb, ne-eqb}
 use Rattle.algebra.specs.Matrix.{Bits}
 use Rattle.diagrams.specs.Diagram.{Ref, value, node, Node, branch, Store, holding, Diagram, rooted, unused, node-at, reached, empty}
-use Rattle.diagrams.specs.Diagram.{Both, From, Tidy, Reaches, here, by-low, by-high, Reduced, Walk, old-value, new-value, old-node, new-node, ReducedOf}
-use Rattle.diagrams.specs.Diagram.{slot, keep, same-ref, same-node, put-value, put-node, make-node, reduce}
+use Rattle.diagrams.specs.Diagram.{Both, From, Tidy, Reaches, here, by-low, by-high, Walk, old-value, new-value, old-node, new-node, ReducedOf}
+use Rattle.diagrams.specs.Diagram.{same-ref, same-node, put-value, put-node, make-node, reduce}
 use Rattle.diagrams.proofs.Tests.{Decides, not-same, ref-decides, node-decides}
 use Rattle.diagrams.proofs.Keeping.{Absent, all-snoc, distinct-snoc, Kept, found, fresh, kept}
 use Rattle.diagrams.proofs.Again.{Extends, extends-refl, extends-trans, make-node-alike, make-node-apart, reduce-ext}
-use Rattle.diagrams.proofs.Unique.{Seen, seen-more, both-map, Closed, closed-more, old-walk, prefix, prefix-all, rebuilds}
+use Rattle.diagrams.proofs.Unique.{Seen, seen-more, both-map, Closed, closed-more, old-walk, prefix-all, rebuilds}
 
 abbrev nodes-used : {X : Type 0} → Store X → ℕ
 nodes-used s = length (s .nodes)
@@ -121,6 +121,12 @@ reached-down blank s level i low high b l e =
 
 -- ---- stores that hold diagrams
 
+value-more : {X : Type 0} (x : X) (s : Store X) → Extends s (holding (s .nodes) (s .values ++ (x ∷ [])))
+value-more x s = record { more-nodes = []; more-values = x ∷ []; nodes-are = sym (append-nil (s .nodes)); values-are = refl }
+
+node-more : {X : Type 0} (n : Node) (s : Store X) → Extends s (holding (s .nodes ++ (n ∷ [])) (s .values))
+node-more n s = record { more-nodes = n ∷ []; more-values = []; nodes-are = refl; values-are = sym (append-nil (s .values)) }
+
 module _ {X : Type 0} (blank : X) (levels : ℕ) where
   record Valid (s : Store X) : Type 0 where
     tidy : Tidy blank levels s
@@ -141,9 +147,6 @@ module _ {X : Type 0} (blank : X) (levels : ℕ) where
     closed = λ i h. absurd (no-index i h);
   }
 
-  value-more : (x : X) (s : Store X) → Extends s (holding (s .nodes) (s .values ++ (x ∷ [])))
-  value-more x s = record { more-nodes = []; more-values = x ∷ []; nodes-are = sym (append-nil (s .nodes)); values-are = refl }
-
   valid-value : (x : X) (s : Store X) → Valid s → Absent blank x (s .values) → Valid (holding (s .nodes) (s .values ++ (x ∷ [])))
   valid-value x s valid absent = record {
     tidy = record {
@@ -158,9 +161,6 @@ module _ {X : Type 0} (blank : X) (levels : ℕ) where
     where
       more : Extends s (holding (s .nodes) (s .values ++ (x ∷ [])))
       more = value-more x s
-
-  node-more : (n : Node) (s : Store X) → Extends s (holding (s .nodes ++ (n ∷ [])) (s .values))
-  node-more n s = record { more-nodes = n ∷ []; more-values = []; nodes-are = refl; values-are = sym (append-nil (s .values)) }
 
   valid-node : (n : Node) (s : Store X) → Valid s → Absent unused n (s .nodes) → (n .low ≡ n .high → ⊥) → n .level < levels
       → Both (λ r. Seen r (nodes-used s) (values-used s)) n → Both (From s (suc (n .level))) n → Valid (holding (s .nodes ++ (n ∷ [])) (s .values))
@@ -201,8 +201,8 @@ module _ {X : Type 0} {same : X → X → Bool} (𝓓 : Decides same) (blank : X
       → Seen r (nodes-used s) (values-used s) → From s level r → ((l : Bits) → length l ≡ left → reached blank s level r l ≡ f l)
       → reduce same left level f s ≡ rooted s r
   known-given left level f s r sum valid seen from gives =
-      sym (reduce-ext 𝓓 left level (reached blank s level r) f s gives)
-      ∙ subst (λ (t : Store X). reduce same left level (reached blank s level r) t ≡ rooted t r) (prefix-all s 𝓓 blank levels (valid .tidy))
+      sym (reduce-ext same left level (reached blank s level r) f s gives)
+      ∙ subst (λ (t : Store X). reduce same left level (reached blank s level r) t ≡ rooted t r) (prefix-all s)
       (rebuilds s 𝓓 blank levels (valid .tidy) left level sum r (nodes-used s) (values-used s) (nodes-used s) (values-used s)
       from (old-walk s r (nodes-used s) (values-used s) seen) (valid .closed) (omega arith) (omega arith))
 
@@ -214,7 +214,7 @@ module _ {X : Type 0} {same : X → X → Bool} (𝓓 : Decides same) (blank : X
   at-cons P left h [] e = absurd (omega arith)
   at-cons P left h (b ∷ l) e = h b l (omega arith)
 
-  made-value : (level : ℕ) (f : Bits → X) (s : Store X) → Valid blank levels s → Kept 𝓓 blank (f []) (s .values) → Made 0 level f s (put-value same (f []) s)
+  made-value : (level : ℕ) (f : Bits → X) (s : Store X) → Valid blank levels s → Kept same blank (f []) (s .values) → Made 0 level f s (put-value same (f []) s)
   made-value level f s valid (found j h g (p, q)) = subst (Made 0 level f s) (λ i. rooted (holding (s .nodes) (sym p i)) (value (sym q i))) (record {
     extends = extends-refl s;
     valid = valid;
@@ -225,7 +225,7 @@ module _ {X : Type 0} {same : X → X → Bool} (𝓓 : Decides same) (blank : X
     walk = λ t g. old-value h;
   })
   made-value level f s valid (fresh absent (p, q)) = subst (Made 0 level f s) (λ i. rooted (holding (s .nodes) (sym p i)) (value (sym q i))) (record {
-    extends = value-more blank levels (f []) s;
+    extends = value-more (f []) s;
     valid = valid-value blank levels (f []) s valid absent;
     seen = omega (arith, len);
     from = tt;
@@ -360,7 +360,7 @@ module _ {X : Type 0} {same : X → X → Bool} (𝓓 : Decides same) (blank : X
     }
       where
         node-added : Extends s₂ s₃
-        node-added = node-more blank levels n s₂
+        node-added = node-more n s₂
 
         high-added : Extends s₁ s₃
         high-added = extends-trans (𝓗 .extends) node-added
@@ -390,7 +390,7 @@ module _ {X : Type 0} {same : X → X → Bool} (𝓓 : Decides same) (blank : X
     made-node : Made (suc left) level f s (make-node n s₂)
     made-node = by-test (same-ref low high) refl
       where
-        by-kept : (low ≡ high → ⊥) → Kept node-decides unused n (s₂ .nodes) → Made (suc left) level f s (put-node n s₂)
+        by-kept : (low ≡ high → ⊥) → Kept same-node unused n (s₂ .nodes) → Made (suc left) level f s (put-node n s₂)
         by-kept apart (found j h g (p, q)) =
             subst (Made (suc left) level f s) (λ i. rooted (holding (sym p i) (s₂ .values)) (node (sym q i))) (made-found j h g)
         by-kept apart (fresh absent (p, q)) =

@@ -47,17 +47,16 @@ distinct-snoc blank x l once absent i j p q e = by-order (decLt i (length l)) (d
 abbrev pub Keeps : {A : Type 0} → (A → A → Bool) → A → List A → List A → ℕ → Type 0
 Keeps same x l l′ j = (keep same x l ≡ l′) × (slot same x l ≡ j)
 
+-- found, or appended
+pub data Kept {A : Type 0} (same : A → A → Bool) (blank x : A) (l : List A) : Type 0 where
+  found : (j : ℕ) → j < length l → getD l j blank ≡ x → Keeps same x l l j → Kept same blank x l
+  fresh : Absent blank x l → Keeps same x l (l ++ (x ∷ [])) (length l) → Kept same blank x l
+
 module _ {A : Type 0} {same : A → A → Bool} (𝓓 : Decides same) where
-  -- ---- found or appended
-
-  pub data Kept (blank x : A) (l : List A) : Type 0 where
-    found : (j : ℕ) → j < length l → getD l j blank ≡ x → Keeps same x l l j → Kept blank x l
-    fresh : Absent blank x l → Keeps same x l (l ++ (x ∷ [])) (length l) → Kept blank x l
-
   keeps-cons : (x y : A) (l l′ : List A) (j : ℕ) → same y x ≡ false → Keeps same x l l′ j → Keeps same x (y ∷ l) (y ∷ l′) (suc j)
   keeps-cons x y l l′ j e k = (rw e (ap (λ (m : List A). y ∷ m) (k .0)), rw e (ap suc (k .1)))
 
-  kept-cons : (blank x y : A) (l : List A) → same y x ≡ false → Kept blank x l → Kept blank x (y ∷ l)
+  kept-cons : (blank x y : A) (l : List A) → same y x ≡ false → Kept same blank x l → Kept same blank x (y ∷ l)
   kept-cons blank x y l e (found j h g k) = found (suc j) (omega arith) g (keeps-cons x y l l j e k)
   kept-cons blank x y l e (fresh u k) = fresh (absent u) (keeps-cons x y l (l ++ (x ∷ [])) (length l) e k)
     where
@@ -65,21 +64,21 @@ module _ {A : Type 0} {same : A → A → Bool} (𝓓 : Decides same) where
       absent u zero h g = not-same 𝓓 y x e g
       absent u (suc j) h g = u j (omega arith) g
 
-  pub kept : (blank x : A) (l : List A) → Kept blank x l
+  pub kept : (blank x : A) (l : List A) → Kept same blank x l
   kept blank x [] = fresh (λ j h. absurd (none-below j h)) (refl, refl)
     where
       none-below : (j : ℕ) → j < 0 → ⊥
       none-below j h = omega arith
   kept blank x (y ∷ l) = by-test (same y x) refl (kept blank x l)
     where
-      by-test : (b : Bool) → same y x ≡ b → Kept blank x l → Kept blank x (y ∷ l)
+      by-test : (b : Bool) → same y x ≡ b → Kept same blank x l → Kept same blank x (y ∷ l)
       by-test true e k = found 0 (omega arith) (𝓓 .sound y x e) (rw e, rw e)
       by-test false e k = kept-cons blank x y l e k
 
   pub keep-extends : (x : A) (l : List A) → (more : List A) × (keep same x l ≡ l ++ more)
   keep-extends x l = by-kept (kept x x l)
     where
-      by-kept : Kept x x l → (more : List A) × (keep same x l ≡ l ++ more)
+      by-kept : Kept same x x l → (more : List A) × (keep same x l ≡ l ++ more)
       by-kept (found j h g k) = ([], k .0 ∙ sym (append-nil l))
       by-kept (fresh u k) = (x ∷ [], k .0)
 
@@ -102,7 +101,7 @@ module _ {A : Type 0} {same : A → A → Bool} (𝓓 : Decides same) where
         len : length (take n l) ≡ n
         len = length-take-le n l k
 
-        by-kept : Kept blank (getD l j blank) (take n l) → Keeps same (getD l j blank) (take n l) (take n l) j
+        by-kept : Kept same blank (getD l j blank) (take n l) → Keeps same (getD l j blank) (take n l) (take n l) j
         by-kept (found i m g (p, q)) = (p, q ∙ once i j (omega (arith, len)) (omega arith) (sym (getD-take n l i blank (omega (arith, len))) ∙ g))
         by-kept (fresh u k) = absurd (u j (omega (arith, len)) (getD-take n l j blank h))
 
@@ -115,7 +114,7 @@ module _ {A : Type 0} {same : A → A → Bool} (𝓓 : Decides same) where
         not-itself : (i : ℕ) → i < n → i ≡ n → ⊥
         not-itself i k e = omega arith
 
-        by-kept : Kept blank (getD l n blank) (take n l) → Keeps same (getD l n blank) (take n l) (take (suc n) l) n
+        by-kept : Kept same blank (getD l n blank) (take n l) → Keeps same (getD l n blank) (take n l) (take (suc n) l) n
         by-kept (found i m g k) =
             absurd (not-itself i (omega (arith, len)) (once i n (omega (arith, len)) h (sym (getD-take n l i blank (omega (arith, len))) ∙ g)))
         by-kept (fresh u (p, q)) = (p ∙ sym (take-suc l n blank h), q ∙ len)

@@ -2,18 +2,18 @@
 -- Assumes nothing.
 use mathlib.Core.Path.{_≡_, refl, sym, _∙_, ap, subst, fun-ext}
 use mathlib.Core.Bool.{Bool, true, false, cond}
-use mathlib.Core.List.{List, [], _∷_}
+use mathlib.Core.List.{_∷_}
 use Prim.Native.Nat.{ℕ, zero, suc, _+_, _<_, _≤_}
 use native.Mathlib.Omega.{arith}
 use native.Mathlib.Decide.{decLt}
-use lib.ListN.{length, getD, take}
+use lib.ListN.{length, take}
 use lib.Seq.{take-all}
 use lib.Dec.{eqb}
 use borrow.Author.Tests.{eqb-true, eqb-false}
 use Rattle.algebra.specs.Matrix.{Bits}
 use Rattle.diagrams.specs.Diagram.{Ref, value, node, Node, branch, Store, holding, Diagram, rooted, unused, node-at, reached, empty}
-use Rattle.diagrams.specs.Diagram.{Both, From, Tidy, Reduced, Walk, old-value, new-value, old-node, new-node, ReducedOf}
-use Rattle.diagrams.specs.Diagram.{slot, keep, same-ref, same-node, make-node, reduce}
+use Rattle.diagrams.specs.Diagram.{Both, From, Tidy, Walk, old-value, new-value, old-node, new-node, ReducedOf}
+use Rattle.diagrams.specs.Diagram.{same-node, make-node, reduce}
 use Rattle.diagrams.proofs.Tests.{Decides, same-not, ref-decides, node-decides}
 use Rattle.diagrams.proofs.Keeping.{Keeps, keep-old, keep-next}
 use Rattle.diagrams.proofs.Again.{make-node-apart, reduce-step, reduce-ext, reduce-alike}
@@ -87,6 +87,9 @@ module _ {X : Type 0} (s : Store X) where
   abbrev pub prefix : ℕ → ℕ → Store X
   prefix i j = holding (take i (s .nodes)) (take j (s .values))
 
+  pub prefix-all : prefix (length (s .nodes)) (length (s .values)) ≡ s
+  prefix-all = λ t. holding (take-all (length (s .nodes)) (s .nodes) (omega arith) t) (take-all (length (s .values)) (s .values) (omega arith) t)
+
   module _ {same : X → X → Bool} (𝓓 : Decides same) (blank : X) (levels : ℕ) (𝓣 : Tidy blank levels s) where
     open Tidy 𝓣 using (children-differ, no-two-nodes, no-value-twice, levels-below, levels-rise)
 
@@ -118,7 +121,7 @@ module _ {X : Type 0} (s : Store X) where
         → Keeps same-node (node-at s n) (take i₂ (s .nodes)) (take i′ (s .nodes)) n
         → reduce same (suc left) level (reached blank s level (node n)) (prefix i j) ≡ rooted (prefix i′ j₂) (node n)
     rebuilds-children left level n i j i₁ j₁ i₂ j₂ i′ e h low high kept =
-        reduce-step 𝓓 left level (reached blank s level (node n)) (prefix i j) (prefix i₁ j₁) (prefix i₂ j₂) (node-at s n .low) (node-at s n .high)
+        reduce-step same left level (reached blank s level (node n)) (prefix i j) (prefix i₁ j₁) (prefix i₂ j₂) (node-at s n .low) (node-at s n .high)
         (ap (λ (f : Bits → X). reduce same left (suc level) f (prefix i j)) (down false) ∙ low)
         (ap (λ (f : Bits → X). reduce same left (suc level) f (prefix i₁ j₁)) (down true) ∙ high)
         ∙ ap (λ (d : ℕ). make-node (branch d (node-at s n .low) (node-at s n .high)) (prefix i₂ j₂)) (sym (eqb-true (node-at s n .level) level e))
@@ -181,9 +184,6 @@ module _ {X : Type 0} (s : Store X) where
             let other : node-at s n .level ≡ level → ⊥ = eqb-false (node-at s n .level) level asked in
             rebuilds-passed left level (node n) i j i′ j′ (λ b. fun-ext (λ l. rw asked)) (omega arith) walk closed p q below
 
-    pub prefix-all : prefix (length (s .nodes)) (length (s .values)) ≡ s
-    prefix-all = λ t. holding (take-all (length (s .nodes)) (s .nodes) (omega arith) t) (take-all (length (s .values)) (s .values) (omega arith) t)
-
 -- ---- the one reduced diagram
 
 none-below : (n : ℕ) → n < 0 → ⊥
@@ -196,10 +196,10 @@ from-zero s (node n) = omega arith
 pub reduced-unique : {X : Type 0} {same : X → X → Bool} (𝓓 : Decides same) (blank : X) (levels : ℕ) (f : Bits → X) (D : Diagram X)
     → ReducedOf blank levels f D → D ≡ reduce same levels 0 f empty
 reduced-unique {same = same} 𝓓 blank levels f D 𝓡 =
-    sym (ap (λ (s : Store _). rooted s (D .root)) (prefix-all (D .store) 𝓓 blank levels tidy))
+    sym (ap (λ (s : Store _). rooted s (D .root)) (prefix-all (D .store)))
     ∙ sym (rebuilds (D .store) 𝓓 blank levels tidy levels 0 (omega arith) (D .root) 0 0 (length (D .store .nodes)) (length (D .store .values))
     (from-zero (D .store) (D .root)) (𝓡 .numbered) (λ n h. absurd (none-below n h)) (omega arith) (omega arith))
-    ∙ reduce-ext 𝓓 levels 0 (reached blank (D .store) 0 (D .root)) f empty (𝓡 .gives)
+    ∙ reduce-ext same levels 0 (reached blank (D .store) 0 (D .root)) f empty (𝓡 .gives)
   where
     tidy : Tidy blank levels (D .store)
     tidy = 𝓡 .reduced .tidy

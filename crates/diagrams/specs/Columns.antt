@@ -1,10 +1,10 @@
 -- A store in its lent columns. Definitions only; their laws are in proofs/Columns.antt.
-use mathlib.Core.List.{List, [], _∷_, _++_, map}
+use mathlib.Core.List.{List, _++_, map}
 use Prim.Native.Nat.{ℕ, _-_}
 use lib.IntN.{ℤ, pos}
 use lib.ListN.{length, replicate}
 use Rattle.algebra.specs.declared.Entry.{Entry}
-use Rattle.diagrams.specs.Diagram.{Node, code, Store, empty}
+use Rattle.diagrams.specs.Diagram.{Node, code, Store}
 
 -- "Each has three node columns (level, low, high; unsigned 32-bit) of one length N .. and four value columns (a, b, c, d;
 -- signed 32-bit) of one length L"

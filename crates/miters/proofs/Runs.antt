@@ -1,22 +1,22 @@
 -- Any two runs that are not refused agree: one report and one used part, whatever the schedules, widths, stores and their
 -- earlier contents; and that part is the miter's reduced diagram.
 -- Assumes nothing.
-use mathlib.Core.Path.{_≡_, refl, sym, _∙_, ap, ap₂, subst}
+use mathlib.Core.Path.{_≡_, refl, sym, _∙_, ap, ap₂, subst, _≡⟨_⟩_, _∎}
 use mathlib.Core.Bool.{Bool, true, false, cond, _&&_, true≢false}
 use mathlib.Core.List.{List, [], _∷_, _++_, map, append-nil}
-use Prim.Native.Nat.{ℕ, zero, suc, _+_, _-_, _<_, _≤_}
-use native.Mathlib.Nat.{add-zero}
+use Prim.Native.Nat.{ℕ, zero, suc, _+_, _-_, _<_}
+use native.Mathlib.Nat.{add-zero, zero-add}
 use native.Mathlib.Omega.{arith}
 use lib.Dec.{eqb, leb, leb·suc-zero, leb·suc-suc}
-use lib.IntN.{ℤ, pos}
+use lib.IntN.{pos}
 use lib.ListN.{length, take, replicate, length-map}
-use borrow.Author.Tests.{eqb-true, leb-true}
+use borrow.Author.Tests.{eqb-true}
 use Rattle.algebra.specs.declared.Entry.{Entry}
 use Rattle.algebra.specs.Entry.{𝟘}
-use Rattle.algebra.specs.Matrix.{Bits, Matrix}
-use Rattle.gates.specs.Gate.{Gate, inverse}
+use Rattle.algebra.specs.Matrix.{Matrix}
+use Rattle.gates.specs.Gate.{Gate}
 use Rattle.schedules.specs.Schedule.{count, only-steps, fits}
-use Rattle.diagrams.specs.Diagram.{Ref, node, code, Node, Store, Diagram, ReducedOf, levels, entries, diagram}
+use Rattle.diagrams.specs.Diagram.{node, code, Node, Diagram, ReducedOf, levels, entries, diagram}
 use Rattle.diagrams.specs.Columns.{Columns, column, held, cleared}
 use Rattle.diagrams.proofs.Tests.{both-true}
 use Rattle.diagrams.proofs.Columns.{take-column}
@@ -24,8 +24,7 @@ use Rattle.diagrams.proofs.Diagrams.{diagram-unique}
 use Rattle.miters.specs.declared.Refusal.{Refusal}
 use Rattle.miters.specs.declared.Refusal.the-variants.{Step as at-step}
 use Rattle.miters.specs.declared.Verdict.the-variants.{Refused}
-use Rattle.miters.specs.declared.Report.{Report}
-use Rattle.miters.specs.Miter.{All-fit, Over, start, Step, left, right, stepped, run, steps, miter}
+use Rattle.miters.specs.Miter.{All-fit, Over, start, Step, stepped, run, steps, miter}
 use Rattle.miters.specs.Report.{finished, refused}
 use Rattle.miters.specs.Run.{Lent, in-width, has-room, Ended, done, stopped, follow, ended, Outcome, outcome, judged, used}
 use Rattle.miters.proofs.Schedules.{schedule-miter}
@@ -47,7 +46,7 @@ module _ (lent : Lent) (n : ℕ) where
 
   -- all steps are taken; or those before step k + 1, whose product has a number outside the width, or is within it and has no room
   pub data Follows (before : ℕ) (M : Over) (ss : List Step) : Ended → Type 0 where
-    finishes : Pass M ss (length ss) → has-room lent n (run n ss M .entries) ≡ true → Follows before M ss (done (before + length ss) (run n ss M))
+    finishes : Pass M ss (length ss) → Follows before M ss (done (before + length ss) (run n ss M))
     too-wide : (k : ℕ) → k < length ss → Pass M ss k → in-width lent n (after M ss (suc k)) ≡ false
         → Follows before M ss (stopped (at-step 13 (before + k)))
     too-full : (k : ℕ) → k < length ss → Pass M ss k → in-width lent n (after M ss (suc k)) ≡ true → has-room lent n (after M ss (suc k)) ≡ false
@@ -66,8 +65,8 @@ module _ (lent : Lent) (n : ℕ) where
 
     follows-cons : {e : Ended} → in-width lent n (next .entries) ≡ true → has-room lent n (next .entries) ≡ true
         → Follows (suc before) next ss e → Follows before M (s ∷ ss) e
-    follows-cons wide room (finishes pass last) =
-        subst (λ (k : ℕ). Follows before M (s ∷ ss) (done k (run n ss next))) (omega arith) (finishes (pass-cons (length ss) wide room pass) last)
+    follows-cons wide room (finishes pass) =
+        subst (λ (k : ℕ). Follows before M (s ∷ ss) (done k (run n ss next))) (omega arith) (finishes (pass-cons (length ss) wide room pass))
     follows-cons wide room (too-wide k h pass out) =
         subst (λ (i : ℕ). Follows before M (s ∷ ss) (stopped (at-step 13 i))) (omega arith)
         (too-wide (suc k) (omega arith) (pass-cons k wide room pass) out)
@@ -87,17 +86,16 @@ module _ (lent : Lent) (n : ℕ) where
     follow-on wide room = rw (wide, room)
 
     follows-step : (a b : Bool) → in-width lent n (next .entries) ≡ a → has-room lent n (next .entries) ≡ b
-        → (has-room lent n (next .entries) ≡ true → Follows (suc before) next ss (follow lent n (suc before) ss next))
-        → Follows before M (s ∷ ss) (follow lent n before (s ∷ ss) M)
+        → Follows (suc before) next ss (follow lent n (suc before) ss next) → Follows before M (s ∷ ss) (follow lent n before (s ∷ ss) M)
     follows-step false b wide room onward = subst (Follows before M (s ∷ ss))
         (ap (λ (i : ℕ). stopped (at-step 13 i)) (add-zero before) ∙ sym (follow-too-wide wide)) (too-wide 0 (omega arith) (pass-none M (s ∷ ss)) wide)
     follows-step true false wide room onward = subst (Follows before M (s ∷ ss))
         (ap (λ (i : ℕ). stopped (at-step 14 i)) (add-zero before) ∙ sym (follow-too-full wide room)) (too-full 0 (omega arith) (pass-none M (s ∷ ss)) wide room)
-    follows-step true true wide room onward = subst (Follows before M (s ∷ ss)) (sym (follow-on wide room)) (follows-cons wide room (onward room))
+    follows-step true true wide room onward = subst (Follows before M (s ∷ ss)) (sym (follow-on wide room)) (follows-cons wide room onward)
 
-  follow-follows : (before : ℕ) (ss : List Step) (M : Over) → has-room lent n (M .entries) ≡ true → Follows before M ss (follow lent n before ss M)
-  follow-follows before [] M room = subst (λ (k : ℕ). Follows before M [] (done k M)) (add-zero before) (finishes (pass-none M []) room)
-  follow-follows before (s ∷ ss) M room =
+  follow-follows : (before : ℕ) (ss : List Step) (M : Over) → Follows before M ss (follow lent n before ss M)
+  follow-follows before [] M = subst (λ (k : ℕ). Follows before M [] (done k M)) (add-zero before) (finishes (pass-none M []))
+  follow-follows before (s ∷ ss) M =
       let M′ = stepped n s M in
       follows-step before M s ss (in-width lent n (M′ .entries)) (has-room lent n (M′ .entries)) refl refl (follow-follows (suc before) ss M′)
 
@@ -108,18 +106,15 @@ module _ (lent : Lent) (n : ℕ) where
 
   pub ended-ends : (ss : List Step) → Ends ss (ended lent n ss)
   unfolding ended
-  ended-ends ss = by-test (has-room lent n (start .entries)) refl (follow-follows 0 ss start)
+  ended-ends ss = by-test (has-room lent n (start .entries)) refl
     where
-      by-test : (b : Bool) → has-room lent n (start .entries) ≡ b
-          → (has-room lent n (start .entries) ≡ true → Follows 0 start ss (follow lent n 0 ss start))
-          → Ends ss (cond b (follow lent n 0 ss start) (stopped (at-step 14 0)))
-      by-test true room onward = follows room (onward room)
-      by-test false room onward = full-at-once room
+      by-test : (b : Bool) → has-room lent n (start .entries) ≡ b → Ends ss (cond b (follow lent n 0 ss start) (stopped (at-step 14 0)))
+      by-test true room = follows room (follow-follows 0 ss start)
+      by-test false room = full-at-once room
 
-  unstopped-done : (ss : List Step) {e : Ended} → Ends ss e → Unstopped e
-      → (e ≡ done (length ss) (run n ss start)) × (has-room lent n (run n ss start .entries) ≡ true)
+  unstopped-done : (ss : List Step) {e : Ended} → Ends ss e → Unstopped e → e ≡ done (length ss) (run n ss start)
   unstopped-done ss (full-at-once room) unstopped = absurd (unstopped _ refl)
-  unstopped-done ss (follows room (finishes pass last)) unstopped = (ap (λ (k : ℕ). done k (run n ss start)) (omega arith), last)
+  unstopped-done ss (follows room (finishes pass)) unstopped = ap (λ (k : ℕ). done k (run n ss start)) (zero-add (length ss))
   unstopped-done ss (follows room (too-wide k h pass out)) unstopped = absurd (unstopped _ refl)
   unstopped-done ss (follows room (too-full k h pass fit out)) unstopped = absurd (unstopped _ refl)
 
@@ -178,37 +173,16 @@ answered-unstopped : (lent : Lent) (n : ℕ) (e : Ended) → Answered (outcome l
 unfolding refused
 answered-unstopped lent n e answered r is = answered r (ap (λ (x : Ended). outcome lent n x .report .verdict) is)
 
-pub record Leaves (lent : Lent) (n : ℕ) (us vs : List Gate) (o : Outcome) : Type 0 where
-  pub report-is : o .report ≡ finished n (length us + length vs) (miter n us vs)
-  pub first-is : o .first ≡ held (lent .nodes) (lent .values) (diagram n (miter n us vs .entries) .store)
-  pub second-is : o .second ≡ cleared (lent .nodes) (lent .values)
-  pub nodes-fit : length (diagram n (miter n us vs .entries) .store .nodes) ≤ lent .nodes
-  pub values-fit : length (diagram n (miter n us vs .entries) .store .values) ≤ lent .values
-
--- the outcome is that of the miter
+-- its outcome is the miter's
 judged-miter : (lent : Lent) (n : ℕ) (s : List ℕ) (us vs : List Gate) (first second : Columns) → fits (length us) (length vs) s ≡ true
-    → Answered (judged lent n s us vs first second)
-    → (judged lent n s us vs first second ≡ outcome lent n (done (length us + length vs) (miter n us vs))) × (has-room lent n (miter n us vs .entries) ≡ true)
+    → Answered (judged lent n s us vs first second) → judged lent n s us vs first second ≡ outcome lent n (done (length us + length vs) (miter n us vs))
 unfolding judged
 judged-miter lent n s us vs first second fit answered =
     let ss = steps s us vs in
-    let all-taken = unstopped-done lent n ss (ended-ends lent n ss) (answered-unstopped lent n (ended lent n ss) answered) in
-    let is = schedule-miter n s us vs fit in
-    (ap (outcome lent n) (all-taken .0 ∙ ap₂ done (steps-length s us vs fit) is), ap (λ (M : Over). has-room lent n (M .entries)) (sym is) ∙ all-taken .1)
-
-pub run-leaves : (lent : Lent) (n : ℕ) (s : List ℕ) (us vs : List Gate) (first second : Columns) → fits (length us) (length vs) s ≡ true
-    → Answered (judged lent n s us vs first second) → Leaves lent n us vs (judged lent n s us vs first second)
-run-leaves lent n s us vs first second fit answered =
-    let (is, room) = judged-miter lent n s us vs first second fit answered in
-    let store = diagram n (miter n us vs .entries) .store in
-    let (nodes, values) = both-true (leb (length (store .nodes)) (lent .nodes)) (leb (length (store .values)) (lent .values)) room in
-    record {
-      report-is = ap (λ (o : Outcome). o .report) is;
-      first-is = ap (λ (o : Outcome). o .first) is;
-      second-is = ap (λ (o : Outcome). o .second) is;
-      nodes-fit = leb-true (length (store .nodes)) (lent .nodes) nodes;
-      values-fit = leb-true (length (store .values)) (lent .values) values;
-    }
+    outcome lent n (ended lent n ss)
+    ≡⟨ ap (outcome lent n) (unstopped-done lent n ss (ended-ends lent n ss) (answered-unstopped lent n (ended lent n ss) answered)) ⟩
+    outcome lent n (done (length ss) (run n ss start)) ≡⟨ ap (outcome lent n) (ap₂ done (steps-length s us vs fit) (schedule-miter n s us vs fit)) ⟩
+    outcome lent n (done (length us + length vs) (miter n us vs)) ∎
 
 -- ---- two runs
 
@@ -235,8 +209,8 @@ unfolding finished
 two-runs n us vs fit-u fit-v D reduced lent lent′ s s′ fit fit′ first second first′ second′ answered answered′ =
     let M = miter (suc n) us vs in
     let is-D : diagram (suc n) (M .entries) ≡ D = sym (diagram-unique (suc n) (M .entries) D reduced) in
-    let is = judged-miter lent (suc n) s us vs first second fit answered .0 in
-    let is′ = judged-miter lent′ (suc n) s′ us vs first′ second′ fit′ answered′ .0 in
+    let is = judged-miter lent (suc n) s us vs first second fit answered in
+    let is′ = judged-miter lent′ (suc n) s′ us vs first′ second′ fit′ answered′ in
     let used-held₁ = ap used is ∙ used-held lent (suc n) (length us + length vs) M in
     let used-held₂ = ap used is′ ∙ used-held lent′ (suc n) (length us + length vs) M in
     record {

@@ -6,7 +6,7 @@ use Prim.Native.Nat.{ℕ, zero, suc, _+_, _^_}
 use lib.ListN.{length}
 use Rattle.algebra.specs.Entry.{𝟘}
 use Rattle.algebra.specs.Matrix.{Bits, Matrix, same}
-use Rattle.diagrams.specs.Diagram.{Store, levels, rows, columns, entries, same-entry, diagram}
+use Rattle.diagrams.specs.Diagram.{levels, rows, columns, entries, same-entry, diagram}
 use Rattle.miters.specs.declared.Difference.{Difference}
 use Rattle.miters.specs.declared.Refusal.{Refusal}
 use Rattle.miters.specs.declared.Refusal.the-variants.{Call, Byte, Step}

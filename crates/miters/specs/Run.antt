@@ -5,11 +5,10 @@ use mathlib.Core.List.{List, [], _∷_}
 use Prim.Native.Nat.{ℕ, zero, suc}
 use lib.Dec.{leb}
 use lib.ListN.{length, take}
-use Rattle.algebra.specs.declared.Entry.{Entry}
 use Rattle.algebra.specs.Matrix.{Bits, Matrix}
 use Rattle.algebra.specs.Width.{entryInWidth}
 use Rattle.gates.specs.Gate.{Gate}
-use Rattle.diagrams.specs.Diagram.{Diagram, levels, entries, diagram}
+use Rattle.diagrams.specs.Diagram.{levels, entries, diagram}
 use Rattle.diagrams.specs.Columns.{Columns, held, cleared}
 use Rattle.miters.specs.declared.Refusal.{Refusal}
 use Rattle.miters.specs.declared.Refusal.the-variants.{Step as at-step}
