@@ -1,6 +1,6 @@
 -- Existence: what `reduce` makes of a function is a reduced diagram, numbered as the walk finishes it, that gives the function.
 -- Assumes nothing.
-use mathlib.Core.Path.{_≡_, refl, sym, _∙_, ap, ap₂, subst, subst⁻¹}
+use mathlib.Core.Path.{_≡_, refl, sym, _∙_, ap, ap₂, subst, subst⁻¹, _≡⟨_⟩_, _∎}
 use mathlib.Core.Bool.{Bool, true, false, cond}
 use mathlib.Core.List.{List, [], _∷_, _++_, append-nil}
 use Prim.Native.Nat.{ℕ, zero, suc, _+_, _<_, _≤_}
@@ -14,7 +14,7 @@ use Rattle.algebra.specs.Matrix.{Bits}
 use Rattle.diagrams.specs.Diagram.{Ref, value, node, Node, branch, Store, holding, Diagram, rooted, unused, node-at, reached, empty}
 use Rattle.diagrams.specs.Diagram.{Both, From, Tidy, Reaches, here, by-low, by-high, Walk, old-value, new-value, old-node, new-node, ReducedOf}
 use Rattle.diagrams.specs.Diagram.{same-ref, same-node, put-value, put-node, make-node, reduce}
-use Rattle.diagrams.proofs.Tests.{Decides, not-same, ref-decides, node-decides}
+use Rattle.diagrams.proofs.Tests.{Decides, false-apart, ref-decides, node-decides}
 use Rattle.diagrams.proofs.Keeping.{Absent, all-snoc, distinct-snoc, Kept, found, fresh, kept}
 use Rattle.diagrams.proofs.Again.{Extends, extends-refl, extends-trans, make-node-alike, make-node-apart, reduce-ext}
 use Rattle.diagrams.proofs.Unique.{Seen, seen-more, both-map, Closed, closed-more, old-walk, prefix-all, rebuilds}
@@ -201,10 +201,14 @@ module _ {X : Type 0} {same : X → X → Bool} (𝓓 : Decides same) (blank : X
       → Seen r (nodes-used s) (values-used s) → From s level r → ((l : Bits) → length l ≡ left → reached blank s level r l ≡ f l)
       → reduce same left level f s ≡ rooted s r
   known-given left level f s r sum valid seen from gives =
-      sym (reduce-ext same left level (reached blank s level r) f s gives)
-      ∙ subst (λ (t : Store X). reduce same left level (reached blank s level r) t ≡ rooted t r) (prefix-all s)
-      (rebuilds s 𝓓 blank levels (valid .tidy) left level sum r (nodes-used s) (values-used s) (nodes-used s) (values-used s)
-      from (old-walk s r (nodes-used s) (values-used s) seen) (valid .closed) (omega arith) (omega arith))
+      reduce same left level f s ≡⟨ sym (reduce-ext same left level (reached blank s level r) f s gives) ⟩
+      reduce same left level (reached blank s level r) s ≡⟨ rebuilt ⟩
+      rooted s r ∎
+    where
+      rebuilt : reduce same left level (reached blank s level r) s ≡ rooted s r
+      rebuilt = subst (λ (t : Store X). reduce same left level (reached blank s level r) t ≡ rooted t r) (prefix-all s)
+          (rebuilds s 𝓓 blank levels (valid .tidy) left level sum r (nodes-used s) (values-used s) (nodes-used s) (values-used s)
+          from (old-walk s r (nodes-used s) (values-used s) seen) (valid .closed) (omega arith) (omega arith))
 
   at-nil : (P : Bits → Type 0) → P [] → (l : Bits) → length l ≡ 0 → P l
   at-nil P h [] e = h
@@ -399,7 +403,7 @@ module _ {X : Type 0} {same : X → X → Bool} (𝓓 : Decides same) (blank : X
         by-test : (b : Bool) → same-ref low high ≡ b → Made (suc left) level f s (make-node n s₂)
         by-test true e = subst (Made (suc left) level f s) (sym (make-node-alike n s₂ e)) (made-alike (ref-decides .sound low high e))
         by-test false e = subst (Made (suc left) level f s) (sym (make-node-apart n s₂ e))
-            (by-kept (not-same ref-decides low high e) (kept node-decides unused n (s₂ .nodes)))
+            (by-kept (false-apart ref-decides low high e) (kept node-decides unused n (s₂ .nodes)))
 
   made : (left level : ℕ) (f : Bits → X) (s : Store X) → left + level ≡ levels → Valid blank levels s → Made left level f s (reduce same left level f s)
   unfolding reduce

@@ -9,7 +9,7 @@ use native.Mathlib.Decide.{decLt}
 use lib.ListN.{length, getD, take, length-append, List·getD-append}
 use lib.Seq.{take-suc, getD-take, length-take-le, getD-at}
 use Rattle.diagrams.specs.Diagram.{slot, keep, Distinct}
-use Rattle.diagrams.proofs.Tests.{Decides, not-same}
+use Rattle.diagrams.proofs.Tests.{Decides, false-apart}
 
 -- ---- lists with one more element
 
@@ -61,7 +61,7 @@ module _ {A : Type 0} {same : A → A → Bool} (𝓓 : Decides same) where
   kept-cons blank x y l e (fresh u k) = fresh (absent u) (keeps-cons x y l (l ++ (x ∷ [])) (length l) e k)
     where
       absent : Absent blank x l → Absent blank x (y ∷ l)
-      absent u zero h g = not-same 𝓓 y x e g
+      absent u zero h g = false-apart 𝓓 y x e g
       absent u (suc j) h g = u j (omega arith) g
 
   pub kept : (blank x : A) (l : List A) → Kept same blank x l

@@ -15,21 +15,21 @@ pub record Decides {A : Type 0} (same : A → A → Bool) : Type 0 where
   pub sound : (x y : A) → same x y ≡ true → x ≡ y
   pub reflexive : (x : A) → same x x ≡ true
 
-pub same-not : {A : Type 0} {same : A → A → Bool} (𝓓 : Decides same) (x y : A) → (x ≡ y → ⊥) → same x y ≡ false
-same-not {same = same} 𝓓 x y apart = by-test (same x y) refl
+pub apart-false : {A : Type 0} {same : A → A → Bool} (𝓓 : Decides same) (x y : A) → (x ≡ y → ⊥) → same x y ≡ false
+apart-false {same = same} 𝓓 x y apart = by-test (same x y) refl
   where
     by-test : (b : Bool) → same x y ≡ b → b ≡ false
     by-test true e = absurd (apart (𝓓 .sound x y e))
     by-test false e = refl
 
-pub not-same : {A : Type 0} {same : A → A → Bool} (𝓓 : Decides same) (x y : A) → same x y ≡ false → x ≡ y → ⊥
-not-same {same = same} 𝓓 x y e p = true≢false (sym (𝓓 .reflexive x) ∙ ap (same x) p ∙ e)
+pub false-apart : {A : Type 0} {same : A → A → Bool} (𝓓 : Decides same) (x y : A) → same x y ≡ false → x ≡ y → ⊥
+false-apart {same = same} 𝓓 x y e p = true≢false (sym (𝓓 .reflexive x) ∙ ap (same x) p ∙ e)
 
 pub both-true : (p q : Bool) → (p && q) ≡ true → (p ≡ true) × (q ≡ true)
 both-true true q e = (refl, e)
 both-true false q e = absurd (true≢false (sym e))
 
-true-both : {p q : Bool} → p ≡ true → q ≡ true → (p && q) ≡ true
+pub true-both : {p q : Bool} → p ≡ true → q ≡ true → (p && q) ≡ true
 true-both e f = ap₂ (λ (p q : Bool). p && q) e f
 
 -- a test through a function that tells all apart

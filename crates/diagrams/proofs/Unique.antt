@@ -1,6 +1,6 @@
 -- Uniqueness: a reduced diagram, numbered as the walk finishes it, is what `reduce` makes of the function that it gives.
 -- Assumes nothing.
-use mathlib.Core.Path.{_≡_, refl, sym, _∙_, ap, subst, fun-ext}
+use mathlib.Core.Path.{_≡_, refl, sym, _∙_, ap, subst, fun-ext, _≡⟨_⟩_, _∎}
 use mathlib.Core.Bool.{Bool, true, false, cond}
 use mathlib.Core.List.{_∷_}
 use Prim.Native.Nat.{ℕ, zero, suc, _+_, _<_, _≤_}
@@ -14,7 +14,7 @@ use Rattle.algebra.specs.Matrix.{Bits}
 use Rattle.diagrams.specs.Diagram.{Ref, value, node, Node, branch, Store, holding, Diagram, rooted, unused, node-at, reached, empty}
 use Rattle.diagrams.specs.Diagram.{Both, From, Tidy, Walk, old-value, new-value, old-node, new-node, ReducedOf}
 use Rattle.diagrams.specs.Diagram.{same-node, make-node, reduce}
-use Rattle.diagrams.proofs.Tests.{Decides, same-not, ref-decides, node-decides}
+use Rattle.diagrams.proofs.Tests.{Decides, apart-false, ref-decides, node-decides}
 use Rattle.diagrams.proofs.Keeping.{Keeps, keep-old, keep-next}
 use Rattle.diagrams.proofs.Again.{make-node-apart, reduce-step, reduce-ext, reduce-alike}
 
@@ -111,7 +111,7 @@ module _ {X : Type 0} (s : Store X) where
     rebuilds-node : (n i j i′ : ℕ) → n < length (s .nodes) → Keeps same-node (node-at s n) (take i (s .nodes)) (take i′ (s .nodes)) n
         → make-node (node-at s n) (prefix i j) ≡ rooted (prefix i′ j) (node n)
     rebuilds-node n i j i′ h kept =
-        make-node-apart (node-at s n) (prefix i j) (same-not ref-decides (node-at s n .low) (node-at s n .high) (children-differ n h))
+        make-node-apart (node-at s n) (prefix i j) (apart-false ref-decides (node-at s n .low) (node-at s n .high) (children-differ n h))
         ∙ (λ t. rooted (holding (kept .0 t) (take j (s .values))) (node (kept .1 t)))
 
     -- a node of this level, both of whose children are rebuilt
@@ -121,14 +121,20 @@ module _ {X : Type 0} (s : Store X) where
         → Keeps same-node (node-at s n) (take i₂ (s .nodes)) (take i′ (s .nodes)) n
         → reduce same (suc left) level (reached blank s level (node n)) (prefix i j) ≡ rooted (prefix i′ j₂) (node n)
     rebuilds-children left level n i j i₁ j₁ i₂ j₂ i′ e h low high kept =
-        reduce-step same left level (reached blank s level (node n)) (prefix i j) (prefix i₁ j₁) (prefix i₂ j₂) (node-at s n .low) (node-at s n .high)
-        (ap (λ (f : Bits → X). reduce same left (suc level) f (prefix i j)) (down false) ∙ low)
-        (ap (λ (f : Bits → X). reduce same left (suc level) f (prefix i₁ j₁)) (down true) ∙ high)
-        ∙ ap (λ (d : ℕ). make-node (branch d (node-at s n .low) (node-at s n .high)) (prefix i₂ j₂)) (sym (eqb-true (node-at s n .level) level e))
-        ∙ rebuilds-node n i₂ j₂ i′ h kept
+        reduce same (suc left) level (reached blank s level (node n)) (prefix i j) ≡⟨ reduce-step same left level _ _ _ _ _ _ low-down high-down ⟩
+        make-node (branch level (node-at s n .low) (node-at s n .high)) (prefix i₂ j₂)
+        ≡⟨ ap (λ (d : ℕ). make-node (branch d (node-at s n .low) (node-at s n .high)) (prefix i₂ j₂)) (sym (eqb-true (node-at s n .level) level e)) ⟩
+        make-node (node-at s n) (prefix i₂ j₂) ≡⟨ rebuilds-node n i₂ j₂ i′ h kept ⟩
+        rooted (prefix i′ j₂) (node n) ∎
       where
         down : (b : Bool) → (λ l. reached blank s level (node n) (b ∷ l)) ≡ reached blank s (suc level) (cond b (node-at s n .high) (node-at s n .low))
         down b = fun-ext (λ l. rw e)
+
+        low-down : reduce same left (suc level) (λ l. reached blank s level (node n) (false ∷ l)) (prefix i j) ≡ rooted (prefix i₁ j₁) (node-at s n .low)
+        low-down = ap (λ (f : Bits → X). reduce same left (suc level) f (prefix i j)) (down false) ∙ low
+
+        high-down : reduce same left (suc level) (λ l. reached blank s level (node n) (true ∷ l)) (prefix i₁ j₁) ≡ rooted (prefix i₂ j₂) (node-at s n .high)
+        high-down = ap (λ (f : Bits → X). reduce same left (suc level) f (prefix i₁ j₁)) (down true) ∙ high
 
     child-rises : (level n : ℕ) (r : Ref) → eqb (node-at s n .level) level ≡ true → From s (suc (node-at s n .level)) r → From s (suc level) r
     child-rises level n r e h = subst (λ (d : ℕ). From s (suc d) r) (eqb-true (node-at s n .level) level e) h
@@ -195,11 +201,18 @@ from-zero s (node n) = omega arith
 
 pub reduced-unique : {X : Type 0} {same : X → X → Bool} (𝓓 : Decides same) (blank : X) (levels : ℕ) (f : Bits → X) (D : Diagram X)
     → ReducedOf blank levels f D → D ≡ reduce same levels 0 f empty
-reduced-unique {same = same} 𝓓 blank levels f D 𝓡 =
-    sym (ap (λ (s : Store _). rooted s (D .root)) (prefix-all (D .store)))
-    ∙ sym (rebuilds (D .store) 𝓓 blank levels tidy levels 0 (omega arith) (D .root) 0 0 (length (D .store .nodes)) (length (D .store .values))
-    (from-zero (D .store) (D .root)) (𝓡 .numbered) (λ n h. absurd (none-below n h)) (omega arith) (omega arith))
-    ∙ reduce-ext same levels 0 (reached blank (D .store) 0 (D .root)) f empty (𝓡 .gives)
+reduced-unique {X} {same = same} 𝓓 blank levels f D 𝓡 =
+    D ≡⟨ sym (ap (λ (s : Store X). rooted s (D .root)) (prefix-all (D .store))) ⟩
+    rooted (prefix (D .store) N L) (D .root) ≡⟨ sym rebuilt ⟩
+    reduce same levels 0 (reached blank (D .store) 0 (D .root)) empty ≡⟨ reduce-ext same levels 0 (reached blank (D .store) 0 (D .root)) f empty (𝓡 .gives) ⟩
+    reduce same levels 0 f empty ∎
   where
-    tidy : Tidy blank levels (D .store)
-    tidy = 𝓡 .reduced .tidy
+    N : ℕ
+    N = length (D .store .nodes)
+
+    L : ℕ
+    L = length (D .store .values)
+
+    rebuilt : reduce same levels 0 (reached blank (D .store) 0 (D .root)) empty ≡ rooted (prefix (D .store) N L) (D .root)
+    rebuilt = rebuilds (D .store) 𝓓 blank levels (𝓡 .reduced .tidy) levels 0 (omega arith) (D .root) 0 0 N L
+        (from-zero (D .store) (D .root)) (𝓡 .numbered) (λ n h. absurd (none-below n h)) (omega arith) (omega arith)

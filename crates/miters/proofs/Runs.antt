@@ -4,6 +4,7 @@
 use mathlib.Core.Path.{_≡_, refl, sym, _∙_, ap, ap₂, subst, _≡⟨_⟩_, _∎}
 use mathlib.Core.Bool.{Bool, true, false, cond, _&&_, true≢false}
 use mathlib.Core.List.{List, [], _∷_, _++_, map, append-nil}
+use mathlib.Core.Logic.{_↔_}
 use Prim.Native.Nat.{ℕ, zero, suc, _+_, _-_, _<_}
 use native.Mathlib.Nat.{add-zero, zero-add}
 use native.Mathlib.Omega.{arith}
@@ -13,12 +14,14 @@ use lib.ListN.{length, take, replicate, length-map}
 use borrow.Author.Tests.{eqb-true}
 use Rattle.algebra.specs.declared.Entry.{Entry}
 use Rattle.algebra.specs.Entry.{𝟘}
-use Rattle.algebra.specs.Matrix.{Matrix}
+use Rattle.algebra.specs.Matrix.{Bits, Matrix}
+use Rattle.algebra.specs.Width.{entryInWidth}
 use Rattle.gates.specs.Gate.{Gate}
 use Rattle.schedules.specs.Schedule.{count, only-steps, fits}
-use Rattle.diagrams.specs.Diagram.{node, code, Node, Diagram, ReducedOf, levels, entries, diagram}
+use Rattle.diagrams.specs.Diagram.{node, code, Node, Diagram, ReducedOf, levels, place, rows, columns, entries, diagram}
 use Rattle.diagrams.specs.Columns.{Columns, column, held, cleared}
-use Rattle.diagrams.proofs.Tests.{both-true}
+use Rattle.diagrams.proofs.Tests.{both-true, true-both}
+use Rattle.diagrams.proofs.Places.{length-place, length-halves, place-halves}
 use Rattle.diagrams.proofs.Columns.{take-column}
 use Rattle.diagrams.proofs.Diagrams.{diagram-unique}
 use Rattle.miters.specs.declared.Refusal.{Refusal}
@@ -26,9 +29,39 @@ use Rattle.miters.specs.declared.Refusal.the-variants.{Step as at-step}
 use Rattle.miters.specs.declared.Verdict.the-variants.{Refused}
 use Rattle.miters.specs.Miter.{All-fit, Over, start, Step, stepped, run, steps, miter}
 use Rattle.miters.specs.Report.{finished, refused}
-use Rattle.miters.specs.Run.{Lent, in-width, has-room, Ended, done, stopped, follow, ended, Outcome, outcome, judged, used}
+use Rattle.miters.specs.Run.{Lent, everywhere, in-width, has-room, Ended, done, stopped, follow, ended, Outcome, outcome, judged, used}
 use Rattle.miters.proofs.Schedules.{schedule-miter}
 use Rattle.miters.proofs.Roots.{miter-root}
+
+-- ---- the test of 13 looks at every entry
+
+everywhere-all : (k : ℕ) (test : Bits → Bool) → everywhere k test ≡ true → (l : Bits) → length l ≡ k → test l ≡ true
+everywhere-all zero test e [] h = e
+everywhere-all zero test e (b ∷ l) h = absurd (omega arith)
+everywhere-all (suc k) test e [] h = absurd (omega arith)
+everywhere-all (suc k) test e (b ∷ l) h = everywhere-all k (λ m. test (b ∷ m)) (by-bit b) l (omega arith)
+  where
+    halves : (everywhere k (λ m. test (false ∷ m)) ≡ true) × (everywhere k (λ m. test (true ∷ m)) ≡ true)
+    halves = both-true (everywhere k (λ m. test (false ∷ m))) (everywhere k (λ m. test (true ∷ m))) e
+
+    by-bit : (b : Bool) → everywhere k (λ m. test (b ∷ m)) ≡ true
+    by-bit false = halves .0
+    by-bit true = halves .1
+
+all-everywhere : (k : ℕ) (test : Bits → Bool) → ((l : Bits) → length l ≡ k → test l ≡ true) → everywhere k test ≡ true
+all-everywhere zero test all = all [] refl
+all-everywhere (suc k) test all = true-both
+    (all-everywhere k (λ m. test (false ∷ m)) (λ l h. all (false ∷ l) (ap suc h))) (all-everywhere k (λ m. test (true ∷ m)) (λ l h. all (true ∷ l) (ap suc h)))
+
+pub in-width-iff : (lent : Lent) (n : ℕ) (M : Matrix)
+    → (in-width lent n M ≡ true) ↔ ((r c : Bits) → length r ≡ n → length c ≡ n → entryInWidth (lent .width) (M r c) ≡ true)
+in-width-iff lent n M = (
+  λ e r c p q. let halves = place-halves r c (p ∙ sym q) in
+      ap₂ (λ (x y : Bits). entryInWidth (lent .width) (M x y)) (sym (halves .0)) (sym (halves .1))
+      ∙ everywhere-all (levels n) (λ l. entryInWidth (lent .width) (entries M l)) e (place r c) (length-place n r c p q),
+  λ all. all-everywhere (levels n) (λ l. entryInWidth (lent .width) (entries M l))
+      (λ l h. all (rows l) (columns l) (length-halves n l h .0) (length-halves n l h .1)),
+)
 
 -- ---- how a run ends
 
@@ -141,13 +174,14 @@ steps-length s us vs e =
 -- ---- the used part of the first store
 
 used-column : {A B : Type 0} (nought : B) (N : ℕ) (f : A → B) (l : List A) → take (length l) (column nought N (map f l)) ≡ column nought (length l) (map f l)
-used-column {A} {B} nought N f l =
+used-column nought N f l =
     let len : length (map f l) ≡ length l = length-map l f in
     let none-left : length l - length (map f l) ≡ 0 = omega arith in
-    ap (λ (k : ℕ). take k (column nought N (map f l))) (sym len)
-    ∙ take-column nought N (map f l)
-    ∙ sym (append-nil (map f l))
-    ∙ ap (λ (k : ℕ). map f l ++ replicate k nought) (sym none-left)
+    take (length l) (column nought N (map f l)) ≡⟨ ap (λ (k : ℕ). take k (column nought N (map f l))) (sym len) ⟩
+    take (length (map f l)) (column nought N (map f l)) ≡⟨ take-column nought N (map f l) ⟩
+    map f l ≡⟨ sym (append-nil (map f l)) ⟩
+    map f l ++ replicate 0 nought ≡⟨ ap (λ (k : ℕ). map f l ++ replicate k nought) (sym none-left) ⟩
+    column nought (length l) (map f l) ∎
 
 used-held : (lent : Lent) (n k : ℕ) (M : Over) → let s = diagram n (M .entries) .store in
     used (outcome lent n (done k M)) ≡ held (length (s .nodes)) (length (s .values)) s
