@@ -27,7 +27,7 @@ pub record Node : Type 0 where
 abbrev pub branch : ℕ → Ref → Ref → Node
 branch level low high = record { level = level; low = low; high = high }
 
--- what a store holds in its used slots
+-- what a store holds in its used slots, numbered from 0
 pub record Store (X : Type 0) : Type 0 where
   pub nodes : List Node
   pub values : List X
@@ -42,6 +42,7 @@ pub record Diagram (X : Type 0) : Type 0 where
 abbrev pub rooted : {X : Type 0} → Store X → Ref → Diagram X
 rooted store root = record { store = store; root = root }
 
+-- the node of a slot that is not used: 0, 0, 0
 abbrev pub unused : Node
 unused = branch 0 (value 0) (value 0)
 
@@ -165,6 +166,7 @@ place [] c = []
 place (x ∷ r) [] = []
 place (x ∷ r) (y ∷ c) = x ∷ y ∷ place r c
 
+-- the row and the column of a place
 abbrev pub rows : Bits → Bits
 rows [] = []
 rows (x ∷ []) = x ∷ []
