@@ -1,13 +1,14 @@
 -- The entries are a commutative ring, and the paper's rules for w8 and √2 are its products with them.
 -- Assumes nothing.
 use mathlib.Core.Path.{_≡_, refl, sym, _∙_, ap, ap₂, fun-ext, subst, _≡⟨_⟩_, _∎}
+use mathlib.Core.Bool.{Bool, true, false, cond, _&&_}
 use Prim.Native.Nat.{ℕ, zero, suc, _+_}
 use native.Mathlib.Nat.{zero-add as nat-zero-add, suc-add}
 use native.Mathlib.Omega.{arith}
 use lib.IntN.{ℤ, pos, negsuc, negℤ-negℤ}
 use Rattle.algebra.specs.declared.Entry.{Entry}
 use Rattle.algebra.specs.Entry.{entry, 𝟘, 𝟙, _⊕_, neg, _⊖_, _⊗_, times-w8, times-w8⁻¹, times-√2, turned, w8^, √2^}
-use Rattle.algebra.proofs.Rings.{CommutativeRing, add-lcomm, zero-add, one-mul, zero-mul}
+use Rattle.algebra.proofs.Rings.{CommutativeRing, add-lcomm, zero-add, one-mul, mul-zero, zero-mul}
 use Rattle.algebra.proofs.Rings.{neg-mul, mul-neg, neg-neg, neg-sum, neg-zero, equal-of-difference}
 use Rattle.algebra.proofs.Extensions.{Extension, extended, extended-mul}
 use Rattle.algebra.proofs.Integers.{integers, double-zero}
@@ -142,6 +143,20 @@ unfolding _⊖_ _⊕_ neg
 pub one-not-zero : 𝟙 ≡ 𝟘 → ⊥
 unfolding 𝟘 𝟙
 one-not-zero e = let same-numbers : pos 1 ≡ pos 0 = ap (λ x. x .d) e in let impossible : _≡_ {A = ℕ} 0 1 = cc in omega arith
+
+-- ---- an entry under a condition, and zero where it fails
+
+pub cond-⊗ : (b : Bool) (x y : Entry) → cond b x 𝟘 ⊗ y ≡ cond b (x ⊗ y) 𝟘
+cond-⊗ true x y = refl
+cond-⊗ false x y = zero-mul entries y
+
+pub cond-one : (b : Bool) (x : Entry) → cond b x 𝟘 ≡ x ⊗ cond b 𝟙 𝟘
+cond-one true x = sym (⊗-one x)
+cond-one false x = sym (mul-zero entries x)
+
+pub cond-cond : (a b : Bool) (x : Entry) → cond a (cond b x 𝟘) 𝟘 ≡ cond (a && b) x 𝟘
+cond-cond true b x = refl
+cond-cond false b x = refl
 
 -- ---- w8
 

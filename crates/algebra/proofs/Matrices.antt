@@ -1,14 +1,14 @@
 -- Matrices: the laws of products, transposes, multiples and the identity, and matrices that are alike on n qubits.
 -- Assumes nothing.
 use mathlib.Core.Path.{_≡_, refl, sym, _∙_, ap, ap₂, fun-ext, _≡⟨_⟩_, _∎}
-use mathlib.Core.Bool.{Bool, true, false, cond}
+use mathlib.Core.Bool.{cond}
 use Prim.Native.Nat.{ℕ}
 use lib.ListN.{length}
 use Rattle.algebra.specs.declared.Entry.{Entry}
 use Rattle.algebra.specs.Entry.{𝟘, 𝟙, _⊗_}
 use Rattle.algebra.specs.Matrix.{Bits, Matrix, total, product, same, identity}
-use Rattle.algebra.proofs.Rings.{one-mul, zero-mul}
-use Rattle.algebra.proofs.Entries.{entries, ⊗-assoc, ⊗-comm}
+use Rattle.algebra.proofs.Rings.{one-mul}
+use Rattle.algebra.proofs.Entries.{entries, ⊗-assoc, ⊗-comm, cond-⊗}
 use Rattle.algebra.proofs.Sums.{same-sym, total-ext, ⊗-total, total-⊗, total-swap, total-pick}
 
 -- ---- equalities of matrices
@@ -57,11 +57,6 @@ scaled-scaled y z A = by-entries (λ r c. sym (⊗-assoc y z (A r c)))
 pub identity-transpose : transpose identity ≡ identity
 unfolding identity
 identity-transpose = by-entries (λ r c. ap (λ b. cond b 𝟙 𝟘) (same-sym c r))
-
--- a product with an entry that is there only under a condition
-pub cond-⊗ : (b : Bool) (x y : Entry) → cond b x 𝟘 ⊗ y ≡ cond b (x ⊗ y) 𝟘
-cond-⊗ true x y = refl
-cond-⊗ false x y = zero-mul entries y
 
 -- ---- matrices that are alike on n qubits
 

@@ -1,6 +1,6 @@
 -- A gate times its inverse, either way round, is a power of 2 times the identity: √2 twice for each H.
 -- Assumes nothing.
-use mathlib.Core.Path.{_≡_, refl, sym, _∙_, ap, ap₂, subst, _≡⟨_⟩_, _∎}
+use mathlib.Core.Path.{_≡_, refl, _∙_, ap, ap₂, subst, _≡⟨_⟩_, _∎}
 use mathlib.Core.Bool.{Bool, true, false, not, cond, _&&_, _||_, Bool·beq}
 use mathlib.Core.List.{[], _∷_}
 use Prim.Native.Nat.{ℕ, zero, suc, _+_, _<_}
@@ -11,13 +11,13 @@ use Rattle.algebra.specs.declared.Entry.{Entry}
 use Rattle.algebra.specs.Entry.{𝟘, 𝟙, neg, _⊕_, _⊗_, turned, times-w8, times-√2, √2^}
 use Rattle.algebra.specs.Matrix.{Bits, product, same, identity}
 use Rattle.algebra.proofs.Rings.{mul-zero}
-use Rattle.algebra.proofs.Entries.{entries, ⊕-zero, ⊗-one}
+use Rattle.algebra.proofs.Entries.{entries, ⊕-zero, cond-one, cond-cond}
 use Rattle.algebra.proofs.Matrices.{Alike, scaled, product-alike, _≈⟨_⟩_, _■}
 use Rattle.gates.specs.Gate.{Kind, X, Y, Z, H, S, S†, T, T†, Pair, CNOT, CZ, Gate, on, pair, is, bit, agree, matrix, Fits, inverse, inverse-kind, halves}
 use Rattle.gates.specs.Rule.{left-matrix, gate-rule, kind-rule, pair-rule, controls, target, all-set}
 use Rattle.gates.proofs.Naming.{is-refl, is-sound, without-self, agree-none, agree-without, agree-set}
 use Rattle.gates.proofs.Rules.{four}
-use Rattle.gates.proofs.LocalRules.{where-set, on-target, row-times, on-target-sum, matrix-left, target-fits, all-set-none, cond-cond}
+use Rattle.gates.proofs.LocalRules.{where-set, on-target, row-times, on-target-sum, matrix-left, target-fits, all-set-none}
 
 -- ---- the small matrices
 
@@ -25,6 +25,7 @@ use Rattle.gates.proofs.LocalRules.{where-set, on-target, row-times, on
 abbrev small-product : (Bool → Bool → Entry) → (Bool → Bool → Entry) → Bool → Bool → Bool → Entry
 small-product m m′ active x y = row-times (where-set m active) x (λ b. where-set m′ active b y)
 
+-- it is √2 to the power k times the identity
 abbrev Undone : (Bool → Bool → Entry) → (Bool → Bool → Entry) → ℕ → Bool → Bool → Bool → Type 0
 Undone m m′ k active x y = small-product m m′ active x y ≡ cond (Bool·beq x y) (√2^ k) 𝟘
 
@@ -106,10 +107,6 @@ inverse-alike : (n : ℕ) (g : Gate) → Fits n g → Alike n (matrix (inverse g
 inverse-alike n (on k q) h = matrix-alike n (on (inverse-kind k) q) h
 inverse-alike n (pair k p q) h = matrix-alike n (pair k p q) h
 
-cond-scaled : (b : Bool) (s : Entry) → cond b s 𝟘 ≡ s ⊗ cond b 𝟙 𝟘
-cond-scaled true s = sym (⊗-one s)
-cond-scaled false s = sym (mul-zero entries s)
-
 pub gate-inverse : (n : ℕ) (g : Gate) → Fits n g → Alike n (product n (matrix g) (matrix (inverse g))) (scaled (√2^ (halves g + halves g)) identity)
 unfolding identity
 gate-inverse n g h =
@@ -142,12 +139,12 @@ gate-inverse n g h =
         ≡⟨ ap (λ x. cond (agree (is q) r c) x 𝟘) (gate-undone g r (bit r q) (bit c q)) ⟩
         cond (agree (is q) r c) (cond (Bool·beq (bit r q) (bit c q)) s 𝟘) 𝟘 ≡⟨ cond-cond (agree (is q) r c) (Bool·beq (bit r q) (bit c q)) s ⟩
         cond (agree (is q) r c && Bool·beq (bit r q) (bit c q)) s 𝟘 ≡⟨ ap (λ b. cond b s 𝟘) (agree-same q r c (omega (arith, q<n))) ⟩
-        cond (same r c) s 𝟘 ≡⟨ cond-scaled (same r c) s ⟩
+        cond (same r c) s 𝟘 ≡⟨ cond-one (same r c) s ⟩
         s ⊗ cond (same r c) 𝟙 𝟘 ∎
 
 -- ---- the inverse's inverse is the gate
 
-inverse-fits : (n : ℕ) (g : Gate) → Fits n g → Fits n (inverse g)
+pub inverse-fits : (n : ℕ) (g : Gate) → Fits n g → Fits n (inverse g)
 inverse-fits n (on k q) h = h
 inverse-fits n (pair k p q) h = h
 

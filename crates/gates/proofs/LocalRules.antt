@@ -11,9 +11,9 @@ use Rattle.algebra.specs.declared.Entry.{Entry}
 use Rattle.algebra.specs.Entry.{𝟘, 𝟙, neg, _⊕_, _⊖_, _⊗_, turned, w8^}
 use Rattle.algebra.specs.Matrix.{Bits, Matrix, total, product}
 use Rattle.algebra.proofs.Rings.{zero-add, one-mul, zero-mul, neg-mul}
-use Rattle.algebra.proofs.Entries.{entries, ⊕-zero, ⊖-is, turned-is}
+use Rattle.algebra.proofs.Entries.{entries, ⊕-zero, ⊖-is, turned-is, cond-⊗, cond-cond}
 use Rattle.algebra.proofs.Sums.{beq-sym, total-ext}
-use Rattle.algebra.proofs.Matrices.{product-transpose, cond-⊗}
+use Rattle.algebra.proofs.Matrices.{product-transpose}
 use Rattle.gates.specs.declared.Phases.{Phases}
 use Rattle.gates.specs.declared.Rule.{Rule}
 use Rattle.gates.specs.Gate.{Gate, on, pair, table, is, bit, agree, names, named-entry, matrix, Fits}
@@ -39,7 +39,7 @@ row-times-one : (u : Entry) (z : Bool) (f : Bool → Entry) → row-times (λ x 
 row-times-one u true f = ap (λ x. x ⊕ u ⊗ f true) (zero-mul entries (f false)) ∙ zero-add entries (u ⊗ f true)
 row-times-one u false f = ap (_⊕_ (u ⊗ f false)) (zero-mul entries (f true)) ∙ ⊕-zero (u ⊗ f false)
 
--- only the lists with another target bit count
+-- of the lists only the two count that are l but for the target's bit
 pub on-target-sum : (n : ℕ) (m : Bool → Bool → Entry) (P : ℕ → Bool) (q : ℕ) (F : Bits → Entry) (l : Bits) → q < n → length l ≡ n
     → total n (λ c. on-target m P q l c ⊗ F c) ≡ row-times (where-set m (all-set P l)) (bit l q) (λ b. F (set l q b))
 on-target-sum n m P q F l h e =
@@ -59,7 +59,7 @@ on-target-sum n m P q F l h e =
 
 -- ---- the gate's data as such a matrix
 
--- the sum of two, as H has it
+-- the signs of H: a sum in row 0, a difference in row 1
 row-times-mixed : (x : Bool) (f : Bool → Entry) → row-times (table 𝟙 𝟙 𝟙 (neg 𝟙)) x f ≡ cond x (f false ⊖ f true) (f false ⊕ f true)
 row-times-mixed false f = ap₂ _⊕_ (one-mul entries (f false)) (one-mul entries (f true))
 row-times-mixed true f =
@@ -128,10 +128,6 @@ all-set-one : (p : ℕ) (l : Bits) → p < length l → all-set (is p) l ≡ bit
 all-set-one p [] h = absurd (omega arith)
 all-set-one zero (x ∷ l) h = ap (_&&_ x) (all-set-none l) ∙ and-true x
 all-set-one (suc p) (x ∷ l) h = all-set-one p l (omega arith)
-
-pub cond-cond : (a b : Bool) (x : Entry) → cond a (cond b x 𝟘) 𝟘 ≡ cond (a && b) x 𝟘
-cond-cond true b x = refl
-cond-cond false b x = refl
 
 named-by-is : (n : ℕ) (g : Gate) (m : Bool → Bool → Entry) → Fits n g → (r c : Bits) → length r ≡ n
     → cond (agree (names g) r c) (named-by g m r c) 𝟘 ≡ on-target m (controls g) (target g) r c
