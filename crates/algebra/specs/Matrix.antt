@@ -18,6 +18,11 @@ unfoldable pub total : ℕ → (Bits → Entry) → Entry
 total zero f = f []
 total (suc n) f = total n (λ l. f (false ∷ l)) ⊕ total n (λ l. f (true ∷ l))
 
+-- a test of all bit lists of length n
+abbrev pub everywhere : ℕ → (Bits → Bool) → Bool
+everywhere zero test = test []
+everywhere (suc n) test = everywhere n (λ l. test (false ∷ l)) && everywhere n (λ l. test (true ∷ l))
+
 -- the product on n qubits: the sum over all middle indices
 unfoldable pub product : ℕ → Matrix → Matrix → Matrix
 product n A B r c = total n (λ m. A r m ⊗ B m c)

@@ -14,7 +14,7 @@ use lib.ListN.{length, take, replicate, length-map}
 use borrow.Author.Tests.{eqb-true}
 use Rattle.algebra.specs.declared.Entry.{Entry}
 use Rattle.algebra.specs.Entry.{𝟘}
-use Rattle.algebra.specs.Matrix.{Bits, Matrix}
+use Rattle.algebra.specs.Matrix.{Bits, Matrix, everywhere}
 use Rattle.algebra.specs.Width.{entryInWidth}
 use Rattle.gates.specs.Gate.{Gate}
 use Rattle.schedules.specs.Schedule.{count, only-steps, fits}
@@ -29,7 +29,7 @@ use Rattle.miters.specs.declared.Refusal.the-variants.{Step as at-step}
 use Rattle.miters.specs.declared.Verdict.the-variants.{Refused}
 use Rattle.miters.specs.Miter.{All-fit, Over, start, Step, stepped, run, steps, miter}
 use Rattle.miters.specs.Report.{finished, refused}
-use Rattle.miters.specs.Run.{Lent, everywhere, in-width, has-room, Ended, done, stopped, follow, ended, Outcome, outcome, judged, used}
+use Rattle.miters.specs.Run.{Lent, in-width, has-room, Ended, done, stopped, follow, ended, Outcome, outcome, judged, used}
 use Rattle.miters.proofs.Schedules.{schedule-miter}
 use Rattle.miters.proofs.Roots.{miter-root}
 

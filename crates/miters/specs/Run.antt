@@ -5,7 +5,7 @@ use mathlib.Core.List.{List, [], _∷_}
 use Prim.Native.Nat.{ℕ, zero, suc}
 use lib.Dec.{leb}
 use lib.ListN.{length, take}
-use Rattle.algebra.specs.Matrix.{Bits, Matrix}
+use Rattle.algebra.specs.Matrix.{Matrix, everywhere}
 use Rattle.algebra.specs.Width.{entryInWidth}
 use Rattle.gates.specs.Gate.{Gate}
 use Rattle.diagrams.specs.Diagram.{levels, entries, diagram}
@@ -23,10 +23,6 @@ pub record Lent : Type 0 where
   pub values : ℕ
 
 -- ---- what a step is tested for
-
-abbrev pub everywhere : ℕ → (Bits → Bool) → Bool
-everywhere zero test = test []
-everywhere (suc k) test = everywhere k (λ l. test (false ∷ l)) && everywhere k (λ l. test (true ∷ l))
 
 -- 13 holds if "the step's product has a number outside the width"
 abbrev pub in-width : Lent → ℕ → Matrix → Bool
