@@ -1,0 +1,5 @@
+pub mod Numbers
+pub mod Answers
+pub mod Codes
+pub mod Readings
+pub mod Lists

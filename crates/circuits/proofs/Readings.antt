@@ -1,0 +1,62 @@
+-- What it says of the parts that a whole reading succeeded, and the gates of a list one by one.
+-- Assumes nothing.
+use mathlib.Core.Path.{_≡_, refl, sym, _∙_, ap, subst}
+use mathlib.Core.List.{List, [], _∷_}
+use Prim.Native.Nat.{ℕ, zero, suc}
+use native.Mathlib.Omega.{arith}
+use lib.ListN.{length}
+use Rattle.gates.specs.Gate.{Gate}
+use Rattle.circuits.specs.Reading.{Reading, read, refused, followed, gate, gates}
+
+-- ---- one reader after another
+
+-- the first reader gave a value, from which the second went on
+pub record Parts {A B : Type 0} (m : Reading A) (go : A → ℕ → Reading B) (b : B) (end : ℕ) : Type 0 where
+  pub value : A
+  pub next : ℕ
+  pub first : m ≡ read value next
+  pub second : go value next ≡ read b end
+
+pub parts : {A B : Type 0} (m : Reading A) {go : A → ℕ → Reading B} {b : B} {end : ℕ} → followed m go ≡ read b end → Parts m go b end
+parts (read a next) e = record { value = a; next = next; first = refl; second = e }
+parts (refused r) e = let z : _≡_ {A = ℕ} 0 1 = cc in absurd (omega arith)
+
+module _ {A : Type 0} {a b : A} {m n : ℕ} (e : read a m ≡ read b n) where
+  pub read-value : a ≡ b
+  read-value = cc
+
+  pub read-next : m ≡ n
+  read-next = cc
+
+-- ---- the gates, one by one
+
+-- the first gate, and the others after it
+pub record Cons (n m : ℕ) (s : List ℕ) (at : ℕ) (gs : List Gate) (end : ℕ) : Type 0 where
+  pub head : Gate
+  pub rest : List Gate
+  pub next : ℕ
+  pub head-read : gate n s at ≡ read head next
+  pub rest-read : gates n m s next ≡ read rest end
+  pub cons : gs ≡ head ∷ rest
+
+pub gates-cons : (n m : ℕ) (s : List ℕ) (at : ℕ) {gs : List Gate} {end : ℕ} → gates n (suc m) s at ≡ read gs end → Cons n m s at gs end
+unfolding gates
+gates-cons n m s at e =
+    let p = parts (gate n s at) e in
+    let q = parts (gates n m s (p .next)) (p .second) in
+    record {
+      head = p .value;
+      rest = q .value;
+      next = p .next;
+      head-read = p .first;
+      rest-read = q .first ∙ ap (read (q .value)) (read-next (q .second));
+      cons = sym (read-value (q .second));
+    }
+
+-- as many gates are read as are asked for
+pub gates-length : (n m : ℕ) (s : List ℕ) (at : ℕ) {gs : List Gate} {end : ℕ} → gates n m s at ≡ read gs end → length gs ≡ m
+unfolding gates
+gates-length n zero s at e = ap length (sym (read-value e))
+gates-length n (suc m) s at e =
+    let c = gates-cons n m s at e in
+    ap length (c .cons) ∙ ap suc (gates-length n m s (c .next) (c .rest-read))
