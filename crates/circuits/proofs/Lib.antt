@@ -3,3 +3,5 @@ pub mod Answers
 pub mod Codes
 pub mod Readings
 pub mod Lists
+pub mod Forms
+pub mod Remaining

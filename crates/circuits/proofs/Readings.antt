@@ -1,12 +1,26 @@
 -- What it says of the parts that a whole reading succeeded, and the gates of a list one by one.
 -- Assumes nothing.
+use mathlib.Core.Bool.{Bool, true, false, cond}
 use mathlib.Core.Path.{_≡_, refl, sym, _∙_, ap, subst}
 use mathlib.Core.List.{List, [], _∷_}
 use Prim.Native.Nat.{ℕ, zero, suc}
 use native.Mathlib.Omega.{arith}
 use lib.ListN.{length}
 use Rattle.gates.specs.Gate.{Gate}
-use Rattle.circuits.specs.Reading.{Reading, read, refused, followed, gate, gates}
+use Rattle.circuits.specs.declared.Refusal.{Refusal}
+use Rattle.circuits.specs.Reading.{Reading, read, refused, Reader, followed, pure, refuse, checked, gate, gates}
+
+-- ---- what was read
+
+pub refused-read : {A : Type 0} {r : Refusal} {a : A} {next : ℕ} → refused r ≡ read a next → ⊥
+refused-read e = let z : _≡_ {A = ℕ} 0 1 = cc in omega arith
+
+module _ {A : Type 0} {a b : A} {m n : ℕ} (e : read a m ≡ read b n) where
+  pub read-value : a ≡ b
+  read-value = cc
+
+  pub read-next : m ≡ n
+  read-next = cc
 
 -- ---- one reader after another
 
@@ -19,14 +33,22 @@ pub record Parts {A B : Type 0} (m : Reading A) (go : A → ℕ → Reading B) (
 
 pub parts : {A B : Type 0} (m : Reading A) {go : A → ℕ → Reading B} {b : B} {end : ℕ} → followed m go ≡ read b end → Parts m go b end
 parts (read a next) e = record { value = a; next = next; first = refl; second = e }
-parts (refused r) e = let z : _≡_ {A = ℕ} 0 1 = cc in absurd (omega arith)
+parts (refused r) e = absurd (refused-read e)
 
-module _ {A : Type 0} {a b : A} {m n : ℕ} (e : read a m ≡ read b n) where
-  pub read-value : a ≡ b
-  read-value = cc
+-- ---- a checked reader
 
-  pub read-next : m ≡ n
-  read-next = cc
+passed : {A : Type 0} (number start : ℕ) (s : List ℕ) {a b : A} {at next : ℕ} (t : Bool)
+    → cond t (pure a) (refuse number start) s at ≡ read b next → (t ≡ true) × (read a at ≡ read b next)
+passed number start s true e = (refl, e)
+passed number start s false e = absurd (refused-read e)
+
+-- what it gives was read, and passed the test
+pub checked-read : {A : Type 0} (number : ℕ) (test : A → Bool) (m : Reader A) (s : List ℕ) (at : ℕ) {a : A} {next : ℕ}
+    → checked number test m s at ≡ read a next → (m s at ≡ read a next) × (test a ≡ true)
+checked-read number test m s at e =
+    let p = parts (m s at) e in
+    let t = passed number at s (test (p .value)) (p .second) in
+    (p .first ∙ t .1, subst (λ a. test a ≡ true) (read-value (t .1)) (t .0))
 
 -- ---- the gates, one by one
 
