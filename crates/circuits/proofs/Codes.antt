@@ -1,6 +1,6 @@
 -- Gate codes: what a decision says of a code's meaning, and the codes of the gates.
 -- Assumes nothing.
-use mathlib.Core.Path.{_≡_, refl, sym, _∙_, ap}
+use mathlib.Core.Path.{_≡_, refl, sym, _∙_, ap, ap₂}
 use mathlib.Core.Logic.{_⊎_, inl, inr, ⊎-elim}
 use mathlib.Core.List.{List}
 use Prim.Native.Nat.{ℕ, zero, suc}
@@ -50,8 +50,11 @@ code-of-meant (suc (suc (suc (suc (suc (suc (suc (suc zero)))))))) = inl refl
 code-of-meant (suc (suc (suc (suc (suc (suc (suc (suc (suc zero))))))))) = inl refl
 code-of-meant (suc (suc (suc (suc (suc (suc (suc (suc (suc (suc c)))))))))) = inr refl
 
-known-code : (code : ℕ) {rule : Rule} → rule-of (meant code) ≡ Decision.Known rule → code ≡ code-of (meant code)
-known-code code e = ⊎-elim sym (λ f. cc) (code-of-meant code)
+pub meant-one : (code : ℕ) {k : Kind} → meant code ≡ one k → code ≡ kind-code k
+meant-one code e = ⊎-elim (λ f. sym f ∙ ap code-of e) (λ f. cc) (code-of-meant code)
+
+pub meant-two : (code : ℕ) {k : Pair} → meant code ≡ two k → code ≡ pair-code k
+meant-two code e = ⊎-elim (λ f. sym f ∙ ap code-of e) (λ f. cc) (code-of-meant code)
 
 -- ---- what a decision says of the code
 
@@ -102,13 +105,15 @@ module _ (n : ℕ) (s : List ℕ) where
   pair-answer k (read p next) = placed-answer k p (target-qubit n p s next)
   pair-answer k (refused r) = refl
 
-  operands-answer : (start at : ℕ) {rule : Rule} (m : Meant) → rule-of m ≡ Decision.Known rule
-      → named-answer (code-of m) (rule .qubits) n s (qubit n s at) ≡ gate-answer (operands n start m s at)
-  operands-answer start at {rule} (one k) e =
-      ap (λ (j : ℕ). named-answer (kind-code k) j n s (qubit n s at)) (ap qubits-of (sym e) ∙ kind-qubits k) ∙ single-answer k (qubit n s at)
-  operands-answer start at {rule} (two k) e =
-      ap (λ (j : ℕ). named-answer (pair-code k) j n s (qubit n s at)) (ap qubits-of (sym e) ∙ pair-qubits k) ∙ pair-answer k (qubit n s at)
-  operands-answer start at {rule} unknown e = cc
+  operands-answer : (start at code : ℕ) {rule : Rule} (m : Meant) → meant code ≡ m → rule-of m ≡ Decision.Known rule
+      → named-answer code (rule .qubits) n s (qubit n s at) ≡ gate-answer (operands n start m s at)
+  operands-answer start at code (one k) e f =
+      ap₂ (λ (c j : ℕ). named-answer c j n s (qubit n s at)) (meant-one code e) (ap qubits-of (sym f) ∙ kind-qubits k)
+      ∙ single-answer k (qubit n s at)
+  operands-answer start at code (two k) e f =
+      ap₂ (λ (c j : ℕ). named-answer c j n s (qubit n s at)) (meant-two code e) (ap qubits-of (sym f) ∙ pair-qubits k)
+      ∙ pair-answer k (qubit n s at)
+  operands-answer start at code unknown e f = cc
 
 -- ---- what a match on a decision says
 
@@ -120,6 +125,4 @@ module _ {d : Decision} (code : ℕ) (e : d ≡ decision code) where
   pub decided-known : {rule : Rule} (n start : ℕ) (s : List ℕ) (at : ℕ) → d ≡ Decision.Known rule
       → named-answer code (rule .qubits) n s (qubit n s at) ≡ gate-answer (operands n start (meant code) s at)
   unfolding decision
-  decided-known {rule} n start s at f =
-      ap (λ (c : ℕ). named-answer c (rule .qubits) n s (qubit n s at)) (known-code code (sym e ∙ f))
-      ∙ operands-answer n s start at (meant code) (sym e ∙ f)
+  decided-known n start s at f = operands-answer n s start at code (meant code) refl (sym e ∙ f)

@@ -1,7 +1,7 @@
 -- What it says of the parts that a whole reading succeeded, and the gates of a list one by one.
 -- Assumes nothing.
 use mathlib.Core.Bool.{Bool, true, false, cond}
-use mathlib.Core.Path.{_≡_, refl, sym, _∙_, ap, subst}
+use mathlib.Core.Path.{_≡_, refl, sym, _∙_, ap, ap₂, subst}
 use mathlib.Core.List.{List, [], _∷_}
 use Prim.Native.Nat.{ℕ, zero, suc}
 use native.Mathlib.Omega.{arith}
@@ -21,6 +21,13 @@ module _ {A : Type 0} {a b : A} {m n : ℕ} (e : read a m ≡ read b n) where
 
   pub read-next : m ≡ n
   read-next = cc
+
+module _ {A : Type 0} {x y : A} {xs ys : List A} (e : x ∷ xs ≡ y ∷ ys) where
+  cons-head : x ≡ y
+  cons-head = cc
+
+  cons-tail : xs ≡ ys
+  cons-tail = cc
 
 -- ---- one reader after another
 
@@ -52,33 +59,30 @@ checked-read number test m s at e =
 
 -- ---- the gates, one by one
 
--- the first gate, and the others after it
-pub record Cons (n m : ℕ) (s : List ℕ) (at : ℕ) (gs : List Gate) (end : ℕ) : Type 0 where
-  pub head : Gate
-  pub rest : List Gate
+-- the first gate stands here, and the others from the offset after it on
+pub record Step (n m : ℕ) (s : List ℕ) (at : ℕ) (g : Gate) (gs : List Gate) (end : ℕ) : Type 0 where
   pub next : ℕ
-  pub head-read : gate n s at ≡ read head next
-  pub rest-read : gates n m s next ≡ read rest end
-  pub cons : gs ≡ head ∷ rest
+  pub gate-here : gate n s at ≡ read g next
+  pub others : gates n m s next ≡ read gs end
 
-pub gates-cons : (n m : ℕ) (s : List ℕ) (at : ℕ) {gs : List Gate} {end : ℕ} → gates n (suc m) s at ≡ read gs end → Cons n m s at gs end
+step-of : {n m : ℕ} {s : List ℕ} {at : ℕ} {g h : Gate} {gs hs : List Gate} {next mid end : ℕ} → gate n s at ≡ read h next
+    → gates n m s next ≡ read hs mid → read (h ∷ hs) mid ≡ read (g ∷ gs) end → Step n m s at g gs end
+step-of {next = next} first second e =
+    record { next = next; gate-here = first ∙ ap₂ read (cons-head (read-value e)) refl; others = second ∙ ap₂ read (cons-tail (read-value e)) (read-next e) }
+
+pub gates-step : (n m : ℕ) (s : List ℕ) (at : ℕ) {g : Gate} {gs : List Gate} {end : ℕ}
+    → gates n (suc m) s at ≡ read (g ∷ gs) end → Step n m s at g gs end
 unfolding gates
-gates-cons n m s at e =
+gates-step n m s at e =
     let p = parts (gate n s at) e in
     let q = parts (gates n m s (p .next)) (p .second) in
-    record {
-      head = p .value;
-      rest = q .value;
-      next = p .next;
-      head-read = p .first;
-      rest-read = q .first ∙ ap (read (q .value)) (read-next (q .second));
-      cons = sym (read-value (q .second));
-    }
+    step-of (p .first) (q .first) (q .second)
 
 -- as many gates are read as are asked for
 pub gates-length : (n m : ℕ) (s : List ℕ) (at : ℕ) {gs : List Gate} {end : ℕ} → gates n m s at ≡ read gs end → length gs ≡ m
 unfolding gates
 gates-length n zero s at e = ap length (sym (read-value e))
 gates-length n (suc m) s at e =
-    let c = gates-cons n m s at e in
-    ap length (c .cons) ∙ ap suc (gates-length n m s (c .next) (c .rest-read))
+    let p = parts (gate n s at) e in
+    let q = parts (gates n m s (p .next)) (p .second) in
+    ap length (sym (read-value (q .second))) ∙ ap suc (gates-length n m s (p .next) (q .first))

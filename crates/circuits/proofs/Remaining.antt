@@ -17,7 +17,7 @@ use Rattle.circuits.specs.declared.Limits.{Limits}
 use Rattle.circuits.specs.Refusals.{bad-qubit-count, bad-gate-count, no-such-qubit, control-is-target}
 use Rattle.circuits.specs.Reading.{Reader, Reading, read, refused, _>>=_, pure, checked, number, qubit, target-qubit, operands, gate, gates}
 use Rattle.circuits.specs.Reading.{count, end, Circuit, body, list, decoded}
-use Rattle.circuits.proofs.Readings.{refused-read, read-value, read-next, parts, checked-read, gates-cons, gates-length}
+use Rattle.circuits.proofs.Readings.{refused-read, read-value, read-next, parts, checked-read, Step, gates-step, gates-length}
 use Rattle.circuits.proofs.Forms.{choice, number-within}
 
 -- ---- reading stays within the bytes
@@ -70,23 +70,11 @@ abbrev pub Remaining : ℕ → List ℕ → ℕ → List Gate → Type 0
 Remaining n s at gs = gates n (length gs) s at ≡ read gs (length s)
 
 -- the first of them stands here, and the others are what is left after it
-pub record Next (n : ℕ) (s : List ℕ) (at : ℕ) (g : Gate) (gs : List Gate) : Type 0 where
-  pub next : ℕ
-  pub gate-here : gate n s at ≡ read g next
-  pub others : Remaining n s next gs
-
-cons-parts : {g h : Gate} {gs hs : List Gate} → g ∷ gs ≡ h ∷ hs → (g ≡ h) × (gs ≡ hs)
-cons-parts e = (cc, cc)
+abbrev pub Next : ℕ → List ℕ → ℕ → Gate → List Gate → Type 0
+Next n s at g gs = Step n (length gs) s at g gs (length s)
 
 pub remaining-next : (n : ℕ) (s : List ℕ) (at : ℕ) (g : Gate) (gs : List Gate) → Remaining n s at (g ∷ gs) → Next n s at g gs
-remaining-next n s at g gs e =
-    let c = gates-cons n (length gs) s at e in
-    let same : (g ≡ c .head) × (gs ≡ c .rest) = cons-parts (c .cons) in
-    record {
-      next = c .next;
-      gate-here = subst (λ (h : Gate). gate n s at ≡ read h (c .next)) (sym (same .0)) (c .head-read);
-      others = subst (λ (l : List Gate). gates n (length gs) s (c .next) ≡ read l (length s)) (sym (same .1)) (c .rest-read);
-    }
+remaining-next n s at g gs e = gates-step n (length gs) s at e
 
 pub remaining-none : (n : ℕ) (s : List ℕ) (at : ℕ) → Remaining n s at [] → at ≡ length s
 unfolding gates

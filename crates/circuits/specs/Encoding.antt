@@ -1,10 +1,13 @@
 -- The bytes of numbers, gates and lists. Definitions only.
 use mathlib.Core.Bool.{cond}
 use mathlib.Core.List.{List, [], _∷_, _++_}
-use Prim.Native.Nat.{ℕ, _+_, _/_, _%_}
+use Prim.Native.Nat.{ℕ, _+_, _/_, _%_, _<_, _≤_}
+use mathlib.Core.Path.{_≡_}
 use lib.ListN.{length}
 use lib.Dec.{ltb}
-use Rattle.gates.specs.Gate.{Kind, X, Y, Z, H, S, S†, T, T†, Pair, CNOT, CZ, Gate, on, pair}
+use Rattle.gates.specs.Gate.{Kind, X, Y, Z, H, S, S†, T, T†, Pair, CNOT, CZ, Gate, on, pair, Fits}
+use Rattle.circuits.specs.declared.Limits.{Limits}
+use Rattle.circuits.specs.Reading.{read, decoded}
 
 -- "Gate codes: 0 X, 1 Y, 2 Z, 3 H, 4 S, 5 S†, 6 T, 7 T†, 8 CNOT, 9 CZ."
 abbrev pub kind-code : Kind → ℕ
@@ -33,9 +36,12 @@ number-bytes v =
     (cond (ltb v 16384) ((v % 128 + 128) ∷ v / 128 ∷ []) ((v % 128 + 128) ∷ (v / 128 % 128 + 128) ∷ v / 16384 ∷ []))
 
 -- "per gate its code and one qubit, or for 8 and 9 the control and the target"
+abbrev pub operand-bytes : Gate → List ℕ
+operand-bytes (on k q) = number-bytes q
+operand-bytes (pair k p q) = number-bytes p ++ number-bytes q
+
 abbrev pub gate-bytes : Gate → List ℕ
-gate-bytes (on k q) = number-bytes (kind-code k) ++ number-bytes q
-gate-bytes (pair k p q) = number-bytes (pair-code k) ++ (number-bytes p ++ number-bytes q)
+gate-bytes g = number-bytes (gate-code g) ++ operand-bytes g
 
 abbrev pub gates-bytes : List Gate → List ℕ
 gates-bytes [] = []
@@ -44,3 +50,27 @@ gates-bytes (g ∷ gs) = gate-bytes g ++ gates-bytes gs
 -- "A list is: qubit count, gate count, then per gate .."
 unfoldable pub list-bytes : ℕ → List Gate → List ℕ
 list-bytes n gs = number-bytes n ++ (number-bytes (length gs) ++ gates-bytes gs)
+
+-- ---- what an accepted list encodes
+
+-- each byte is below 256
+abbrev pub Bytes : List ℕ → Type 0
+Bytes [] = Unit {0}
+Bytes (x ∷ s) = (x < 256) × Bytes s
+
+abbrev pub All-fit : ℕ → List Gate → Type 0
+All-fit n [] = Unit {0}
+All-fit n (g ∷ gs) = Fits n g × All-fit n gs
+
+-- "qubit count .. 1 to 16", "gate count" not "over 4,096", each qubit "below the count", and no control that "equals target"
+pub record Within (limits : Limits) (n : ℕ) (gs : List Gate) : Type 0 where
+  pub some-qubit : 1 ≤ n
+  pub few-qubits : n ≤ limits .qubits
+  pub few-gates : length gs ≤ limits .gates
+  pub all-fit : All-fit n gs
+
+-- the bytes are accepted, as a list of n qubits with these gates
+pub record Decodes (limits : Limits) (bytes : List ℕ) (n : ℕ) (gs : List Gate) : Type 0 where
+  pub first : ℕ
+  pub next : ℕ
+  pub accepted : decoded limits bytes ≡ read (record { qubits = n; first = first; gates = gs }) next
