@@ -1,2 +1,4 @@
 pub mod Spelling
 pub mod Numbers
+pub mod Gates
+pub mod Accepted

@@ -1,0 +1,2 @@
+-- A list is accepted exactly if it is the encoding of some gates within the limits, and that encoding is the only one.
+-- Assumes nothing.

@@ -1,0 +1,120 @@
+-- Gates are read exactly where their encoding stands, in a list of n qubits.
+-- Assumes nothing.
+use mathlib.Core.Bool.{Bool, true, false, not}
+use mathlib.Core.Path.{_≡_, refl, sym, _∙_, ap, subst, subst₂, _≡⟨_⟩_, _∎}
+use mathlib.Core.List.{List, [], _∷_, _++_}
+use Prim.Native.Nat.{ℕ, zero, suc, _+_, _<_, _≤_}
+use native.Mathlib.Nat.{add-zero}
+use native.Mathlib.Omega.{arith}
+use borrow.Author.Tests.{lt-ltb, ltb-true, ne-eqb, eqb-false, not-true}
+use lib.ListN.{length, drop}
+use lib.Dec.{ltb, eqb}
+use Rattle.gates.specs.Gate.{Kind, X, Y, Z, H, S, S†, T, T†, Pair, CNOT, CZ, Gate, on, pair, Meant, one, two, unknown, meant, Fits}
+use Rattle.circuits.specs.Refusals.{no-such-qubit, control-is-target}
+use Rattle.circuits.specs.Reading.{Reading, read, number, qubit, target-qubit, operands, gate, gates}
+use Rattle.circuits.specs.Encoding.{kind-code, pair-code, gate-code, number-bytes, operand-bytes, gate-bytes, gates-bytes, Bytes, All-fit}
+use Rattle.circuits.proofs.Readings.{read-value, read-next, refused-read, parts, checked-read, gates-step}
+use Rattle.circuits.proofs.Codes.{kind-meant, pair-meant, meant-one, meant-two}
+use Rattle.encodings.proofs.Spelling.{Spelled, join, split}
+use Rattle.encodings.proofs.Numbers.{number-spelled, number-reads}
+
+-- ---- codes take one byte
+
+small-code : (g : Gate) → gate-code g < 2097152
+small-code (on X q) = omega arith
+small-code (on Y q) = omega arith
+small-code (on Z q) = omega arith
+small-code (on H q) = omega arith
+small-code (on S q) = omega arith
+small-code (on S† q) = omega arith
+small-code (on T q) = omega arith
+small-code (on T† q) = omega arith
+small-code (pair CNOT p q) = omega arith
+small-code (pair CZ p q) = omega arith
+
+-- ---- what is spelled there is read: the qubit count is one that three groups can hold
+
+module _ (n : ℕ) (few : n < 2097152) (s : List ℕ) where
+  qubit-reads : (at : ℕ) {q next : ℕ} → q < n → Spelled s at (number-bytes q) next → qubit n s at ≡ read q next
+  unfolding qubit
+  qubit-reads at {q} h p = rw (number-reads s at p (omega arith), lt-ltb q n h)
+
+  target-reads : (p at : ℕ) {q next : ℕ} → q < n → (p ≡ q → ⊥) → Spelled s at (number-bytes q) next → target-qubit n p s at ≡ read q next
+  unfolding target-qubit
+  target-reads p at {q} h other e = rw (qubit-reads at h e, ne-eqb q p (λ f. other (sym f)))
+
+  gate-reads : (at : ℕ) (g : Gate) {next : ℕ} → Fits n g → Spelled s at (gate-bytes g) next → gate n s at ≡ read g next
+  unfolding gate
+  gate-reads at (on k q) fits e =
+      let c = split (number-bytes (kind-code k)) (number-bytes q) e in
+      rw (number-reads s at (c .0) (small-code (on k q)), kind-meant k, qubit-reads _ fits (c .1))
+  gate-reads at (pair k p q) fits e =
+      let c = split (number-bytes (pair-code k)) (number-bytes p ++ number-bytes q) e in
+      let d = split (number-bytes p) (number-bytes q) (c .1) in
+      rw (number-reads s at (c .0) (small-code (pair k p q)), pair-meant k, qubit-reads _ (fits .0) (d .0))
+      (rw (target-reads p _ (fits .1) (fits .2) (d .1)))
+
+  pub gates-read : (at : ℕ) (gs : List Gate) {next : ℕ} → All-fit n gs → Spelled s at (gates-bytes gs) next
+      → gates n (length gs) s at ≡ read gs next
+  unfolding gates
+  gates-read at [] fit e = ap (read []) (sym (e .after ∙ add-zero at))
+  gates-read at (g ∷ gs) fit e =
+      let c = split (gate-bytes g) (gates-bytes gs) e in
+      rw (gate-reads at g (fit .0) (c .0), gates-read _ gs (fit .1) (c .1))
+
+-- ---- what is read is spelled there
+
+module _ (n : ℕ) (s : List ℕ) (bytes : Bytes s) where
+  qubit-spelled : (at : ℕ) {q next : ℕ} → qubit n s at ≡ read q next → (q < n) × Spelled s at (number-bytes q) next
+  unfolding qubit
+  qubit-spelled at {q} e =
+      let c = checked-read no-such-qubit (λ q. ltb q n) number s at e in
+      (ltb-true q n (c .1), number-spelled s bytes at (c .0) .1)
+
+  target-spelled : (p at : ℕ) {q next : ℕ} → target-qubit n p s at ≡ read q next
+      → (q < n) × (p ≡ q → ⊥) × Spelled s at (number-bytes q) next
+  unfolding target-qubit
+  target-spelled p at {q} e =
+      let c = checked-read control-is-target (λ q. not (eqb q p)) (qubit n) s at e in
+      let r = qubit-spelled at (c .0) in
+      (r .0, (λ f. eqb-false q p (not-true _ (c .1)) (sym f)), r .1)
+
+  -- the rest of a gate, after a code with this meaning
+  record Rest (code at : ℕ) (g : Gate) (next : ℕ) : Type 0 where
+    code-is : code ≡ gate-code g
+    fits : Fits n g
+    here : Spelled s at (operand-bytes g) next
+
+  operands-spelled : (code start at : ℕ) (m : Meant) {g : Gate} {next : ℕ} → meant code ≡ m → operands n start m s at ≡ read g next
+      → Rest code at g next
+  operands-spelled code start at (one k) e f =
+      let q = parts (qubit n s at) f in
+      let r = qubit-spelled at (q .first) in
+      subst₂ (Rest code at) (read-value (q .second)) (read-next (q .second))
+      (record { code-is = meant-one code e; fits = r .0; here = r .1 })
+  operands-spelled code start at (two k) e f =
+      let p = parts (qubit n s at) f in
+      let q = parts (target-qubit n (p .value) s (p .next)) (p .second) in
+      let a = qubit-spelled at (p .first) in
+      let b = target-spelled (p .value) (p .next) (q .first) in
+      subst₂ (Rest code at) (read-value (q .second)) (read-next (q .second))
+      (record { code-is = meant-two code e; fits = (a .0, b .0, b .1); here = join (a .1) (b .2) })
+  operands-spelled code start at unknown e f = absurd (refused-read f)
+
+  gate-spelled : (at : ℕ) {g : Gate} {next : ℕ} → gate n s at ≡ read g next → Fits n g × Spelled s at (gate-bytes g) next
+  unfolding gate
+  gate-spelled at {g} {next} e =
+      let c = parts (number s at) e in
+      let r = operands-spelled (c .value) at (c .next) (meant (c .value)) refl (c .second) in
+      let code = number-spelled s bytes at (c .first) .1 in
+      (r .fits, join (subst (λ (v : ℕ). Spelled s at (number-bytes v) (c .next)) (r .code-is) code) (r .here))
+
+  pub gates-spelled : (at : ℕ) (gs : List Gate) {next : ℕ} → gates n (length gs) s at ≡ read gs next
+      → All-fit n gs × Spelled s at (gates-bytes gs) next
+  unfolding gates
+  gates-spelled at [] e = (tt, record { after = sym (read-next e) ∙ sym (add-zero at); here = ap (λ (k : ℕ). drop k s) (read-next e) })
+  gates-spelled at (g ∷ gs) e =
+      let c = gates-step n (length gs) s at e in
+      let a = gate-spelled at (c .gate-here) in
+      let b = gates-spelled (c .next) gs (c .others) in
+      ((a .0, b .0), join (a .1) (b .1))
