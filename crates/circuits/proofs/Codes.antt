@@ -9,7 +9,7 @@ use Rattle.gates.specs.declared.Rule.{Rule}
 use Rattle.gates.specs.declared.Decision.{Decision}
 use Rattle.gates.specs.Rule.{kind-rule, pair-rule, rule-of, decision, gate-rule}
 use Rattle.circuits.specs.Reading.{Reading, read, refused, qubit, target-qubit, operands, followed}
-use Rattle.circuits.specs.Encoding.{kind-code, pair-code, gate-code}
+use Rattle.circuits.specs.Codes.{kind-code, pair-code, gate-code}
 use Rattle.circuits.specs.Answers.{gate-answer, placed, named-answer}
 
 -- ---- the code of each meaning, and the meaning of each code

@@ -5,3 +5,4 @@ pub mod Readings
 pub mod Lists
 pub mod Forms
 pub mod Remaining
+pub mod Within

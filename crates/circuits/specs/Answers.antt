@@ -10,7 +10,7 @@ use Rattle.circuits.specs.declared.NumberRead.{NumberRead}
 use Rattle.circuits.specs.declared.GateRead.{GateRead}
 use Rattle.circuits.specs.declared.ListRead.{ListRead}
 use Rattle.circuits.specs.Reading.{Reading, read, refused, target-qubit, Circuit}
-use Rattle.circuits.specs.Encoding.{gate-code}
+use Rattle.circuits.specs.Codes.{gate-code}
 
 abbrev pub number-answer : Reading ℕ → NumberRead
 number-answer (read v next) = NumberRead.Number v next

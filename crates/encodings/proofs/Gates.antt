@@ -10,10 +10,12 @@ use borrow.Author.Tests.{lt-ltb, ltb-true, ne-eqb, eqb-false, not-true}
 use lib.ListN.{length, drop}
 use lib.Dec.{ltb, eqb}
 use Rattle.gates.specs.Gate.{Kind, X, Y, Z, H, S, S†, T, T†, Pair, CNOT, CZ, Gate, on, pair, Meant, one, two, unknown, meant, Fits}
-use Rattle.circuits.specs.Refusals.{no-such-qubit, control-is-target}
 use Rattle.circuits.specs.Reading.{Reading, read, number, qubit, target-qubit, operands, gate, gates}
-use Rattle.circuits.specs.Encoding.{kind-code, pair-code, gate-code, number-bytes, operand-bytes, gate-bytes, gates-bytes, Bytes, All-fit}
-use Rattle.circuits.proofs.Readings.{read-value, read-next, refused-read, parts, checked-read, gates-step}
+use Rattle.circuits.specs.Codes.{kind-code, pair-code, gate-code}
+use Rattle.encodings.specs.Encoding.{number-bytes, operand-bytes, gate-bytes, gates-bytes, Bytes}
+use Rattle.circuits.specs.Within.{All-fit}
+use Rattle.circuits.proofs.Readings.{read-value, read-next, refused-read, parts, gates-step}
+use Rattle.circuits.proofs.Within.{qubit-checked, target-checked}
 use Rattle.circuits.proofs.Codes.{kind-meant, pair-meant, meant-one, meant-two}
 use Rattle.encodings.proofs.Spelling.{Spelled, join, split}
 use Rattle.encodings.proofs.Numbers.{number-spelled, number-reads}
@@ -65,56 +67,37 @@ module _ (n : ℕ) (few : n < 2097152) (s : List ℕ) where
 -- ---- what is read is spelled there
 
 module _ (n : ℕ) (s : List ℕ) (bytes : Bytes s) where
-  qubit-spelled : (at : ℕ) {q next : ℕ} → qubit n s at ≡ read q next → (q < n) × Spelled s at (number-bytes q) next
-  unfolding qubit
-  qubit-spelled at {q} e =
-      let c = checked-read no-such-qubit (λ q. ltb q n) number s at e in
-      (ltb-true q n (c .1), number-spelled s bytes at (c .0) .1)
-
-  target-spelled : (p at : ℕ) {q next : ℕ} → target-qubit n p s at ≡ read q next
-      → (q < n) × (p ≡ q → ⊥) × Spelled s at (number-bytes q) next
-  unfolding target-qubit
-  target-spelled p at {q} e =
-      let c = checked-read control-is-target (λ q. not (eqb q p)) (qubit n) s at e in
-      let r = qubit-spelled at (c .0) in
-      (r .0, (λ f. eqb-false q p (not-true _ (c .1)) (sym f)), r .1)
-
-  -- the rest of a gate, after a code with this meaning
+  -- the rest of a gate, after its code
   record Rest (code at : ℕ) (g : Gate) (next : ℕ) : Type 0 where
     code-is : code ≡ gate-code g
-    fits : Fits n g
     here : Spelled s at (operand-bytes g) next
 
   operands-spelled : (code start at : ℕ) (m : Meant) {g : Gate} {next : ℕ} → meant code ≡ m → operands n start m s at ≡ read g next
       → Rest code at g next
   operands-spelled code start at (one k) e f =
       let q = parts (qubit n s at) f in
-      let r = qubit-spelled at (q .first) in
       subst₂ (Rest code at) (read-value (q .second)) (read-next (q .second))
-      (record { code-is = meant-one code e; fits = r .0; here = r .1 })
+      (record { code-is = meant-one code e; here = number-spelled s bytes at (qubit-checked s at n (q .first) .0) })
   operands-spelled code start at (two k) e f =
       let p = parts (qubit n s at) f in
       let q = parts (target-qubit n (p .value) s (p .next)) (p .second) in
-      let a = qubit-spelled at (p .first) in
-      let b = target-spelled (p .value) (p .next) (q .first) in
+      let control = number-spelled s bytes at (qubit-checked s at n (p .first) .0) in
+      let target = number-spelled s bytes (p .next) (target-checked s (p .next) n (p .value) (q .first) .0) in
       subst₂ (Rest code at) (read-value (q .second)) (read-next (q .second))
-      (record { code-is = meant-two code e; fits = (a .0, b .0, b .1); here = join (a .1) (b .2) })
+      (record { code-is = meant-two code e; here = join control target })
   operands-spelled code start at unknown e f = absurd (refused-read f)
 
-  gate-spelled : (at : ℕ) {g : Gate} {next : ℕ} → gate n s at ≡ read g next → Fits n g × Spelled s at (gate-bytes g) next
+  gate-spelled : (at : ℕ) {g : Gate} {next : ℕ} → gate n s at ≡ read g next → Spelled s at (gate-bytes g) next
   unfolding gate
-  gate-spelled at {g} {next} e =
+  gate-spelled at e =
       let c = parts (number s at) e in
       let r = operands-spelled (c .value) at (c .next) (meant (c .value)) refl (c .second) in
-      let code = number-spelled s bytes at (c .first) .1 in
-      (r .fits, join (subst (λ (v : ℕ). Spelled s at (number-bytes v) (c .next)) (r .code-is) code) (r .here))
+      let code = number-spelled s bytes at (c .first) in
+      join (subst (λ (v : ℕ). Spelled s at (number-bytes v) (c .next)) (r .code-is) code) (r .here)
 
-  pub gates-spelled : (at : ℕ) (gs : List Gate) {next : ℕ} → gates n (length gs) s at ≡ read gs next
-      → All-fit n gs × Spelled s at (gates-bytes gs) next
+  pub gates-spelled : (at : ℕ) (gs : List Gate) {next : ℕ} → gates n (length gs) s at ≡ read gs next → Spelled s at (gates-bytes gs) next
   unfolding gates
-  gates-spelled at [] e = (tt, record { after = sym (read-next e) ∙ sym (add-zero at); here = ap (λ (k : ℕ). drop k s) (read-next e) })
+  gates-spelled at [] e = record { after = sym (read-next e) ∙ sym (add-zero at); here = ap (λ (k : ℕ). drop k s) (read-next e) }
   gates-spelled at (g ∷ gs) e =
       let c = gates-step n (length gs) s at e in
-      let a = gate-spelled at (c .gate-here) in
-      let b = gates-spelled (c .next) gs (c .others) in
-      ((a .0, b .0), join (a .1) (b .1))
+      join (gate-spelled at (c .gate-here)) (gates-spelled (c .next) gs (c .others))

@@ -9,7 +9,7 @@ use native.Mathlib.Omega.{arith}
 use borrow.Author.Tests.{lt-ltb, le-ltb, ne-eqb}
 use lib.ListN.{length, drop}
 use Rattle.circuits.specs.Reading.{read, first-group, number}
-use Rattle.circuits.specs.Encoding.{Bytes, number-bytes}
+use Rattle.encodings.specs.Encoding.{Bytes, number-bytes}
 use Rattle.circuits.proofs.Forms.{Form, one-group, two-groups, three-groups, number-form}
 use Rattle.encodings.proofs.Spelling.{Spelled, spelled, drop-bytes}
 
@@ -42,26 +42,25 @@ three-back x y z byte-x byte-y hx hy hz z>0 =
 -- ---- what is read is spelled there
 
 record Shown (at : ℕ) (t : List ℕ) (v next : ℕ) : Type 0 where
-  small : v < 2097152
   after : next ≡ at + length (number-bytes v)
   rest : List ℕ
   here : t ≡ number-bytes v ++ rest
 
 form-shown : {at v next : ℕ} {t : List ℕ} → Bytes t → Form at t v next → Shown at t v next
 form-shown b (one-group {x} {t} hx) =
-    record { small = omega arith; after = rw (one-byte x hx); rest = t; here = rw (one-byte x hx) }
+    record { after = rw (one-byte x hx); rest = t; here = rw (one-byte x hx) }
 form-shown b (two-groups {x} {y} {t} hx hy y>0) =
     let e = two-back x y (b .0) hx hy y>0 in
-    record { small = omega arith; after = rw e; rest = t; here = rw e }
+    record { after = rw e; rest = t; here = rw e }
 form-shown b (three-groups {x} {y} {z} {t} hx hy hz z>0) =
     let e = three-back x y z (b .0) (b .1 .0) hx hy hz z>0 in
-    record { small = omega arith; after = rw e; rest = t; here = rw e }
+    record { after = rw e; rest = t; here = rw e }
 
 pub number-spelled : (s : List ℕ) → Bytes s → (at : ℕ) {v next : ℕ} → number s at ≡ read v next
-    → (v < 2097152) × Spelled s at (number-bytes v) next
+    → Spelled s at (number-bytes v) next
 number-spelled s b at {v} {next} e =
     let f = form-shown (drop-bytes at s b) (number-form s at e) in
-    (f .small, subst (Spelled s at (number-bytes v)) (sym (f .after)) (spelled s at (number-bytes v) (f .rest) (f .here)))
+    subst (Spelled s at (number-bytes v)) (sym (f .after)) (spelled s at (number-bytes v) (f .rest) (f .here))
 
 -- ---- what is spelled there is read
 

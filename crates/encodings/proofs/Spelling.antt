@@ -1,12 +1,12 @@
 -- A list of bytes that stands at an offset: joined from two, and split in two.
 -- Assumes nothing.
 use mathlib.Core.Path.{_≡_, refl, sym, _∙_, ap}
-use mathlib.Core.List.{List, [], _∷_, _++_, append-assoc}
+use mathlib.Core.List.{List, [], _∷_, _++_, append-assoc, append-nil}
 use Prim.Native.Nat.{ℕ, zero, suc, _+_}
 use native.Mathlib.Omega.{arith}
 use lib.ListN.{length, drop, length-append}
-use lib.Seq.{drop-drop, drop-append-seam}
-use Rattle.circuits.specs.Encoding.{Bytes}
+use lib.Seq.{drop-drop, drop-append-seam, drop-length}
+use Rattle.encodings.specs.Encoding.{Bytes}
 
 -- at the offset the bytes are xs, and then those from `next` on
 pub record Spelled (s : List ℕ) (at : ℕ) (xs : List ℕ) (next : ℕ) : Type 0 where
@@ -33,6 +33,14 @@ module _ {s : List ℕ} {at : ℕ} where
       let e = p .here ∙ append-assoc xs ys (drop next s) in
       let second = drop-spelled s at xs (ys ++ drop next s) e in
       (spelled s at xs (ys ++ drop next s) e, record { after = omega (arith, p .after, length-append xs ys); here = second })
+
+-- ---- all the bytes
+
+pub whole : (s : List ℕ) → Spelled s 0 s (length s)
+whole s = record { after = omega arith; here = sym (ap (λ (r : List ℕ). s ++ r) (drop-length s) ∙ append-nil s) }
+
+pub whole-is : {s xs : List ℕ} → Spelled s 0 xs (length s) → s ≡ xs
+whole-is {s} {xs} e = e .here ∙ (ap (λ (r : List ℕ). xs ++ r) (drop-length s) ∙ append-nil xs)
 
 -- ---- bytes
 

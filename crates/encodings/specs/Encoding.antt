@@ -1,32 +1,16 @@
 -- The bytes of numbers, gates and lists. Definitions only.
 use mathlib.Core.Bool.{cond}
-use mathlib.Core.List.{List, [], _∷_, _++_}
-use Prim.Native.Nat.{ℕ, _+_, _/_, _%_, _<_, _≤_}
 use mathlib.Core.Path.{_≡_}
+use mathlib.Core.List.{List, [], _∷_, _++_}
+use Prim.Native.Nat.{ℕ, _+_, _/_, _%_, _<_}
 use lib.ListN.{length}
 use lib.Dec.{ltb}
-use Rattle.gates.specs.Gate.{Kind, X, Y, Z, H, S, S†, T, T†, Pair, CNOT, CZ, Gate, on, pair, Fits}
+use Rattle.gates.specs.Gate.{Gate, on, pair}
 use Rattle.circuits.specs.declared.Limits.{Limits}
 use Rattle.circuits.specs.Reading.{read, decoded}
+use Rattle.circuits.specs.Codes.{gate-code}
 
--- "Gate codes: 0 X, 1 Y, 2 Z, 3 H, 4 S, 5 S†, 6 T, 7 T†, 8 CNOT, 9 CZ."
-abbrev pub kind-code : Kind → ℕ
-kind-code X = 0
-kind-code Y = 1
-kind-code Z = 2
-kind-code H = 3
-kind-code S = 4
-kind-code S† = 5
-kind-code T = 6
-kind-code T† = 7
-
-abbrev pub pair-code : Pair → ℕ
-pair-code CNOT = 8
-pair-code CZ = 9
-
-abbrev pub gate-code : Gate → ℕ
-gate-code (on k q) = kind-code k
-gate-code (pair k p q) = pair-code k
+-- ---- bytes
 
 -- "groups of seven bits, lowest group first; the top bit of a byte is set if another follows .. the shortest form only", of a
 -- number below 2^21
@@ -57,17 +41,6 @@ list-bytes n gs = number-bytes n ++ (number-bytes (length gs) ++ gates-bytes gs)
 abbrev pub Bytes : List ℕ → Type 0
 Bytes [] = Unit {0}
 Bytes (x ∷ s) = (x < 256) × Bytes s
-
-abbrev pub All-fit : ℕ → List Gate → Type 0
-All-fit n [] = Unit {0}
-All-fit n (g ∷ gs) = Fits n g × All-fit n gs
-
--- "qubit count .. 1 to 16", "gate count" not "over 4,096", each qubit "below the count", and no control that "equals target"
-pub record Within (limits : Limits) (n : ℕ) (gs : List Gate) : Type 0 where
-  pub some-qubit : 1 ≤ n
-  pub few-qubits : n ≤ limits .qubits
-  pub few-gates : length gs ≤ limits .gates
-  pub all-fit : All-fit n gs
 
 -- the bytes are accepted, as a list of n qubits with these gates
 pub record Decodes (limits : Limits) (bytes : List ℕ) (n : ℕ) (gs : List Gate) : Type 0 where
