@@ -8,6 +8,7 @@ use Rattle.gates.specs.Gate.{Kind, X, Y, Z, H, S, S†, T, T†, Pair, CNOT, CZ
 use Rattle.gates.specs.declared.Rule.{Rule}
 use Rattle.gates.specs.declared.Decision.{Decision}
 use Rattle.gates.specs.Rule.{kind-rule, pair-rule, rule-of, decision, gate-rule}
+use Rattle.circuits.specs.declared.GateRead.{GateRead}
 use Rattle.circuits.specs.Reading.{Reading, read, refused, qubit, target-qubit, operands, followed}
 use Rattle.circuits.specs.Codes.{kind-code, pair-code, gate-code}
 use Rattle.circuits.specs.Answers.{gate-answer, placed, named-answer}
@@ -122,7 +123,7 @@ module _ {d : Decision} (code : ℕ) (e : d ≡ decision code) where
   unfolding decision
   decided-unknown f = unknown-rule (meant code) (sym e ∙ f)
 
-  pub decided-known : {rule : Rule} (n start : ℕ) (s : List ℕ) (at : ℕ) → d ≡ Decision.Known rule
-      → named-answer code (rule .qubits) n s (qubit n s at) ≡ gate-answer (operands n start (meant code) s at)
+  pub decided-known : {rule : Rule} {answer : GateRead} (n start : ℕ) (s : List ℕ) (at : ℕ) → d ≡ Decision.Known rule
+      → answer ≡ named-answer code (rule .qubits) n s (qubit n s at) → answer ≡ gate-answer (operands n start (meant code) s at)
   unfolding decision
-  decided-known n start s at f = operands-answer n s start at code (meant code) refl (sym e ∙ f)
+  decided-known n start s at f a = a ∙ operands-answer n s start at code (meant code) refl (sym e ∙ f)

@@ -1,9 +1,9 @@
--- Reading the gates of a list one by one.
+-- A list's answer, by what is left of its gates.
 -- Assumes nothing.
 use mathlib.Core.Bool.{Bool, cond, true, false}
-use mathlib.Core.Path.{_≡_, refl, sym, _∙_, ap, subst}
-use mathlib.Core.List.{List, [], _∷_}
-use Prim.Native.Nat.{ℕ, zero, suc, pred, _-_, _<_, _≤_}
+use mathlib.Core.Path.{_≡_, refl, sym, _∙_, ap}
+use mathlib.Core.List.{List, _∷_}
+use Prim.Native.Nat.{ℕ, zero, suc, _-_, _<_, _≤_}
 use native.Mathlib.Numerals.{sub-one}
 use native.Mathlib.Omega.{arith}
 use borrow.Author.Tests.{lt-ltb, le-ltb}
@@ -17,9 +17,8 @@ use Rattle.circuits.specs.Reading.{Reading, read, refused, followed, gat
 use Rattle.circuits.specs.Answers.{list-answer}
 use Rattle.circuits.proofs.Readings.{gates-length}
 
--- ---- a list's answer, by what is left of its gates
-
 module _ (n m first : ℕ) (s : List ℕ) where
+  -- the answer after the gates
   ended : Reading (List Gate) → ListRead
   ended (read gs next) = cond (ltb next (length s)) (ListRead.Refused (refusal bytes-remain next)) (ListRead.List n m first)
   ended (refused r) = ListRead.Refused r
@@ -30,6 +29,8 @@ module _ (n m first : ℕ) (s : List ℕ) where
   -- the answer where `left` gates are still to be read, from the offset on
   pub left-answer : ℕ → ℕ → ListRead
   left-answer left at = ended (gates n left s at)
+
+  -- ---- at the first gate, all of them are left
 
   end-answer : (gs : List Gate) (next : ℕ) (t : Bool) → length gs ≡ m
       → list-answer (followed (cond t (refused (refusal bytes-remain next)) (read next next)) (λ at next. read (circuit gs) next))
@@ -47,6 +48,8 @@ module _ (n m first : ℕ) (s : List ℕ) where
   unfolding body left-answer ended
   left-all = body-answer (gates n m s first) (λ gs next e. gates-length n m s first e)
 
+  -- ---- a gate is read
+
   pub left-refused : (left at : ℕ) {r : Refusal} → 0 < left → gate n s at ≡ refused r → left-answer left at ≡ ListRead.Refused r
   unfolding left-answer ended gates
   left-refused (suc left) at h e = rw e
@@ -61,6 +64,8 @@ module _ (n m first : ℕ) (s : List ℕ) where
   unfolding left-answer ended gates
   left-read (suc left) at {g} {next} h e = rw e (ended-cons g (gates n left s next) ∙ ap (λ (k : ℕ). left-answer k next) (sym (sub-one (suc left))))
   left-read zero at h e = absurd (omega arith)
+
+  -- ---- none is left
 
   pub left-over : (left at : ℕ) → left ≤ 0 → at < length s → left-answer left at ≡ ListRead.Refused (refusal bytes-remain at)
   unfolding left-answer ended gates

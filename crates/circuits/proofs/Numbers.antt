@@ -1,8 +1,8 @@
 -- What the tests on a number's bytes say of the number: a law for each way in which reading it ends.
 -- Assumes nothing.
-use mathlib.Core.Path.{_≡_, refl, sym, _∙_, ap}
+use mathlib.Core.Path.{_≡_, refl}
 use mathlib.Core.List.{List, [], _∷_}
-use Prim.Native.Nat.{ℕ, suc, _+_, _*_, _%_, _<_, _≤_}
+use Prim.Native.Nat.{ℕ, _+_, _*_, _%_, _<_, _≤_}
 use native.Mathlib.Nat.{add-assoc}
 use native.Mathlib.Numerals.{add-one}
 use native.Mathlib.Omega.{arith}
@@ -11,7 +11,7 @@ use lib.ListN.{length, getD, drop, length-drop}
 use lib.Seq.{drop-cons}
 use Rattle.circuits.specs.declared.NumberRead.{NumberRead}
 use Rattle.circuits.specs.Refusals.{refusal, ends-early, not-shortest}
-use Rattle.circuits.specs.Reading.{read, last-group, third-group, second-group, number}
+use Rattle.circuits.specs.Reading.{last-group, third-group, second-group, number}
 use Rattle.circuits.specs.Answers.{number-answer}
 
 -- ---- the bytes from an offset on

@@ -1,8 +1,9 @@
 -- What it says of the parts that a whole reading succeeded, and the gates of a list one by one.
 -- Assumes nothing.
 use mathlib.Core.Bool.{Bool, true, false, cond}
+use mathlib.Core.Logic.{_⊎_, inl, inr}
 use mathlib.Core.Path.{_≡_, refl, sym, _∙_, ap, ap₂, subst}
-use mathlib.Core.List.{List, [], _∷_}
+use mathlib.Core.List.{List, _∷_}
 use Prim.Native.Nat.{ℕ, zero, suc}
 use native.Mathlib.Omega.{arith}
 use lib.ListN.{length}
@@ -11,6 +12,11 @@ use Rattle.circuits.specs.declared.Refusal.{Refusal}
 use Rattle.circuits.specs.Reading.{Reading, read, refused, Reader, followed, pure, refuse, checked, gate, gates}
 
 -- ---- what was read
+
+-- a choice by a test, and how the test went
+pub choice : {A : Type 0} (b : Bool) {x y z : A} → cond b x y ≡ z → ((b ≡ true) × (x ≡ z)) ⊎ ((b ≡ false) × (y ≡ z))
+choice true e = inl (refl, e)
+choice false e = inr (refl, e)
 
 pub refused-read : {A : Type 0} {r : Refusal} {a : A} {next : ℕ} → refused r ≡ read a next → ⊥
 refused-read e = let z : _≡_ {A = ℕ} 0 1 = cc in omega arith
@@ -44,18 +50,18 @@ parts (refused r) e = absurd (refused-read e)
 
 -- ---- a checked reader
 
-passed : {A : Type 0} (number start : ℕ) (s : List ℕ) {a b : A} {at next : ℕ} (t : Bool)
-    → cond t (pure a) (refuse number start) s at ≡ read b next → (t ≡ true) × (read a at ≡ read b next)
-passed number start s true e = (refl, e)
-passed number start s false e = absurd (refused-read e)
-
 -- what it gives was read, and passed the test
 pub checked-read : {A : Type 0} (number : ℕ) (test : A → Bool) (m : Reader A) (s : List ℕ) (at : ℕ) {a : A} {next : ℕ}
     → checked number test m s at ≡ read a next → (m s at ≡ read a next) × (test a ≡ true)
 checked-read number test m s at e =
     let p = parts (m s at) e in
-    let t = passed number at s (test (p .value)) (p .second) in
+    let t = passed (test (p .value)) (p .second) in
     (p .first ∙ t .1, subst (λ a. test a ≡ true) (read-value (t .1)) (t .0))
+  where
+    passed : {A : Type 0} {a b : A} {mid next : ℕ} (t : Bool)
+        → cond t (pure a) (refuse number at) s mid ≡ read b next → (t ≡ true) × (read a mid ≡ read b next)
+    passed true e = (refl, e)
+    passed false e = absurd (refused-read e)
 
 -- ---- the gates, one by one
 

@@ -1,24 +1,23 @@
 -- The gates of an accepted list, read one by one: what is left of them at an offset.
 -- Assumes nothing.
-use mathlib.Core.Bool.{Bool, not, _&&_}
 use mathlib.Core.Logic.{⊎-elim}
-use mathlib.Core.Path.{_≡_, refl, sym, _∙_, ap, subst}
+use mathlib.Core.Path.{_≡_, sym, _∙_, ap, subst}
 use mathlib.Core.List.{List, [], _∷_}
 use Prim.Native.Nat.{ℕ, zero, suc, _+_, _≤_, _<_}
 use native.Mathlib.Numerals.{add-one}
 use native.Mathlib.Nat.{le-antisymm}
-use native.Mathlib.Omega.{arith}
 use borrow.Author.Tests.{ltb-false}
 use lib.ListN.{length, getD, drop}
 use lib.Seq.{drop-cons}
-use lib.Dec.{ltb, eqb, leb}
+use lib.Dec.{ltb}
 use Rattle.gates.specs.Gate.{Gate, on, pair, Meant, one, two, unknown, meant}
 use Rattle.circuits.specs.declared.Limits.{Limits}
-use Rattle.circuits.specs.Refusals.{bad-qubit-count, bad-gate-count, no-such-qubit, control-is-target}
-use Rattle.circuits.specs.Reading.{Reader, Reading, read, refused, _>>=_, pure, checked, number, qubit, target-qubit, operands, gate, gates}
+use Rattle.circuits.specs.Refusals.{bad-qubit-count, bad-gate-count}
+use Rattle.circuits.specs.Reading.{Reader, read, _>>=_, pure, number, qubit, target-qubit, operands, gate, gates}
 use Rattle.circuits.specs.Reading.{count, end, Circuit, body, list, decoded}
-use Rattle.circuits.proofs.Readings.{refused-read, read-value, read-next, parts, checked-read, Step, gates-step, gates-length}
-use Rattle.circuits.proofs.Forms.{choice, number-within}
+use Rattle.circuits.proofs.Readings.{choice, refused-read, read-value, read-next, parts, Step, gates-step, gates-length}
+use Rattle.circuits.proofs.Checks.{qubit-checked, target-checked, count-checked}
+use Rattle.circuits.proofs.Forms.{number-within}
 
 -- ---- reading stays within the bytes
 
@@ -37,16 +36,11 @@ number-stays s at v next e h = number-within s at e
 pure-stays : {A : Type 0} (a : A) → Stays (pure a)
 pure-stays a s at b next e h = subst (λ (k : ℕ). k ≤ length s) (read-next e) h
 
-checked-stays : {A : Type 0} (number : ℕ) (test : A → Bool) (m : Reader A) → Stays m → Stays (checked number test m)
-checked-stays number test m f s at a next e = f s at a next (checked-read number test m s at e .0)
-
 qubit-stays : (n : ℕ) → Stays (qubit n)
-unfolding qubit
-qubit-stays n = checked-stays no-such-qubit (λ q. ltb q n) number number-stays
+qubit-stays n s at q next e h = number-within s at (qubit-checked s at n e .0)
 
 target-stays : (n p : ℕ) → Stays (target-qubit n p)
-unfolding target-qubit
-target-stays n p = checked-stays control-is-target (λ q. not (eqb q p)) (qubit n) (qubit-stays n)
+target-stays n p s at q next e h = number-within s at (target-checked s at n p e .0)
 
 operands-stays : (n start : ℕ) (m : Meant) → Stays (operands n start m)
 operands-stays n start (one k) s at g next e h = stays-then (qubit-stays n) (λ q. pure-stays (on k q)) s at g next e h
@@ -89,7 +83,11 @@ remaining-at n s at i gs other h e =
 -- ---- at the first gate all of them are left
 
 end-at : (s : List ℕ) (at : ℕ) {a next : ℕ} → end s at ≡ read a next → (length s ≤ at) × (next ≡ at)
-end-at s at e = ⊎-elim (λ c. absurd (refused-read (c .1))) (λ c. (ltb-false at (length s) (c .0), sym (read-next (c .1)))) (choice (ltb at (length s)) e)
+end-at s at e =
+    ⊎-elim
+    (λ c. absurd (refused-read (c .1)))
+    (λ c. (ltb-false at (length s) (c .0), sym (read-next (c .1))))
+    (choice (ltb at (length s)) e)
 
 -- the gates and the end
 record Ended (n m : ℕ) (s : List ℕ) (first : ℕ) (c : Circuit) (next : ℕ) : Type 0 where
@@ -112,10 +110,6 @@ body-read n m s first h e =
       ends = sym (read-next (q .second)) ∙ (stop .1 ∙ last);
     }
 
-count-within : (low high refusal : ℕ) (s : List ℕ) (at : ℕ) {v next : ℕ} → count low high refusal s at ≡ read v next → next ≤ length s
-unfolding count
-count-within low high refusal s at e = number-within s at (checked-read refusal (λ v. leb low v && leb v high) number s at e .0)
-
 -- an accepted list: its counts, and all its gates after them
 pub record Accepted (limits : Limits) (s : List ℕ) (c : Circuit) (next : ℕ) : Type 0 where
   pub middle : ℕ
@@ -129,7 +123,7 @@ unfolding decoded list
 decoded-accepted limits s {c} {next} e =
     let p = parts (count 1 (limits .qubits) bad-qubit-count s 0) e in
     let q = parts (count 0 (limits .gates) bad-gate-count s (p .next)) (p .second) in
-    let b = body-read (p .value) (q .value) s (q .next) (count-within _ _ _ s (p .next) (q .first)) (q .second) in
+    let b = body-read (p .value) (q .value) s (q .next) (number-within s (p .next) (count-checked s (p .next) _ _ _ (q .first) .0)) (q .second) in
     let long = gates-length (p .value) (q .value) s (q .next) (b .those-read) in
     subst (λ (c : Circuit). Accepted limits s c next) (b .circuit)
     (record {

@@ -1,47 +1,17 @@
 -- An accepted list is within the limits.
 -- Assumes nothing.
-use mathlib.Core.Bool.{Bool, true, false, not, _&&_}
-use mathlib.Core.Path.{_≡_, refl, sym, subst}
+use mathlib.Core.Path.{_≡_, subst}
 use mathlib.Core.List.{List, [], _∷_}
-use Prim.Native.Nat.{ℕ, _<_, _≤_}
-use borrow.Author.Tests.{ltb-true, leb-true, eqb-false, not-true}
+use Prim.Native.Nat.{ℕ}
 use lib.ListN.{length}
-use lib.Dec.{ltb, leb, eqb}
 use Rattle.gates.specs.Gate.{Gate, Meant, one, two, unknown, meant, Fits}
 use Rattle.circuits.specs.declared.Limits.{Limits}
-use Rattle.circuits.specs.Refusals.{bad-qubit-count, bad-gate-count, no-such-qubit, control-is-target}
-use Rattle.circuits.specs.Reading.{read, number, qubit, target-qubit, operands, gate, gates, count, Circuit, decoded}
+use Rattle.circuits.specs.Refusals.{bad-qubit-count, bad-gate-count}
+use Rattle.circuits.specs.Reading.{read, number, qubit, target-qubit, operands, gate, gates, Circuit, decoded}
 use Rattle.circuits.specs.Within.{All-fit, Within}
-use Rattle.circuits.proofs.Readings.{refused-read, read-value, parts, checked-read, gates-step}
+use Rattle.circuits.proofs.Readings.{refused-read, read-value, parts, gates-step}
+use Rattle.circuits.proofs.Checks.{qubit-checked, target-checked, count-checked}
 use Rattle.circuits.proofs.Remaining.{decoded-accepted}
-
--- ---- numbers that passed their tests
-
-both : (a b : Bool) → a && b ≡ true → (a ≡ true) × (b ≡ true)
-both true b e = (refl, e)
-both false b e = (e, cc)
-
-module _ (s : List ℕ) (at : ℕ) {v next : ℕ} where
-  pub qubit-checked : (n : ℕ) → qubit n s at ≡ read v next → (number s at ≡ read v next) × (v < n)
-  unfolding qubit
-  qubit-checked n e =
-      let c = checked-read no-such-qubit (λ q. ltb q n) number s at e in
-      (c .0, ltb-true v n (c .1))
-
-  pub target-checked : (n p : ℕ) → target-qubit n p s at ≡ read v next → (number s at ≡ read v next) × (v < n) × (p ≡ v → ⊥)
-  unfolding target-qubit
-  target-checked n p e =
-      let c = checked-read control-is-target (λ q. not (eqb q p)) (qubit n) s at e in
-      let q = qubit-checked n (c .0) in
-      (q .0, q .1, λ f. eqb-false v p (not-true _ (c .1)) (sym f))
-
-  pub count-checked : (low high refusal : ℕ) → count low high refusal s at ≡ read v next
-      → (number s at ≡ read v next) × (low ≤ v) × (v ≤ high)
-  unfolding count
-  count-checked low high refusal e =
-      let c = checked-read refusal (λ v. leb low v && leb v high) number s at e in
-      let t = both (leb low v) (leb v high) (c .1) in
-      (c .0, leb-true low v (t .0), leb-true v high (t .1))
 
 -- ---- gates that were read fit
 

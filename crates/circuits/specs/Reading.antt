@@ -4,7 +4,7 @@ use mathlib.Core.List.{List, [], _∷_}
 use Prim.Native.Nat.{ℕ, zero, suc, _+_, _*_, _%_}
 use lib.ListN.{length, drop}
 use lib.Dec.{eqb, leb, ltb}
-use Rattle.gates.specs.Gate.{Kind, Pair, Gate, on, pair, Meant, one, two, unknown, meant}
+use Rattle.gates.specs.Gate.{Gate, on, pair, Meant, one, two, unknown, meant}
 use Rattle.circuits.specs.declared.Refusal.{Refusal}
 use Rattle.circuits.specs.declared.Limits.{Limits}
 use Rattle.circuits.specs.Refusals.{refusal, ends-early, not-shortest, bad-qubit-count, bad-gate-count}

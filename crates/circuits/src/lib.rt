@@ -64,6 +64,7 @@ pub struct Limits {
     pub gates: u32,
 }
 
+// Those of the base. A smaller machine has its own.
 pub fn base_limits() -> Limits
     ensures { λ r. ⌜ r ≡ base-limits ⌝ }
 {
@@ -89,6 +90,7 @@ fn last_group(at: usize, group: u32, value: u32, next: usize) -> NumberRead
     }
 }
 
+// The number that starts at `at`: one to three groups of seven bits, lowest first, in the shortest form.
 pub fn read_number(bytes: &[u8], at: usize) -> NumberRead
     ensures { λ r. ⌜ r ≡ number-answer (number (now (bytes .entry)) at) ⌝ }
 {

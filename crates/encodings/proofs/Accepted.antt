@@ -1,23 +1,22 @@
 -- A list is accepted exactly if it is the encoding of some gates within the limits, and that encoding is the only one.
 -- Assumes nothing.
-use mathlib.Core.Bool.{Bool, true, false, _&&_}
 use mathlib.Core.Logic.{_↔_}
-use mathlib.Core.Path.{_≡_, refl, sym, _∙_, ap, subst}
-use mathlib.Core.List.{List, [], _∷_, _++_}
-use Prim.Native.Nat.{ℕ, zero, suc, _+_, _<_, _≤_}
+use mathlib.Core.Path.{_≡_, sym, _∙_, ap, subst}
+use mathlib.Core.List.{List, _++_}
+use Prim.Native.Nat.{ℕ, _+_, _<_, _≤_}
 use native.Mathlib.Omega.{arith}
-use borrow.Author.Tests.{le-leb, leb-true, le-ltb}
-use lib.ListN.{length, drop}
-use lib.Dec.{leb}
+use borrow.Author.Tests.{le-leb, le-ltb}
+use lib.ListN.{length}
 use Rattle.gates.specs.Gate.{Gate}
 use Rattle.circuits.specs.declared.Limits.{Limits}
 use Rattle.circuits.specs.Refusals.{bad-qubit-count, bad-gate-count, base-limits}
-use Rattle.circuits.specs.Reading.{Reading, read, number, gates, count, end, Circuit, body, list, decoded}
+use Rattle.circuits.specs.Reading.{read, gates, count, Circuit, body, list, decoded}
 use Rattle.encodings.specs.Encoding.{number-bytes, gates-bytes, list-bytes, Bytes, Decodes}
 use Rattle.circuits.specs.Within.{Within}
 use Rattle.circuits.proofs.Readings.{read-value}
 use Rattle.circuits.proofs.Remaining.{decoded-accepted}
-use Rattle.circuits.proofs.Within.{count-checked, decoded-within}
+use Rattle.circuits.proofs.Checks.{count-checked}
+use Rattle.circuits.proofs.Within.{decoded-within}
 use Rattle.encodings.proofs.Spelling.{Spelled, join, split, whole, whole-is}
 use Rattle.encodings.proofs.Numbers.{number-spelled, number-reads}
 use Rattle.encodings.proofs.Gates.{gates-read, gates-spelled}
@@ -76,3 +75,9 @@ module _ (limits : Limits) where
   same-list s d e =
       let c = read-value (sym (d .accepted) ∙ e .accepted) in
       (ap (λ (c : Circuit). c .qubits) c, ap (λ (c : Circuit). c .gates) c)
+
+-- ---- the limits of the base
+
+pub base-accepted-iff-encoded : (s : List ℕ) → Bytes s → (n : ℕ) (gs : List Gate)
+    → Decodes base-limits s n gs ↔ (Within base-limits n gs × (s ≡ list-bytes n gs))
+base-accepted-iff-encoded = accepted-iff-encoded base-limits (omega arith) (omega arith)

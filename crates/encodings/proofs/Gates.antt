@@ -1,28 +1,26 @@
 -- Gates are read exactly where their encoding stands, in a list of n qubits.
 -- Assumes nothing.
-use mathlib.Core.Bool.{Bool, true, false, not}
-use mathlib.Core.Path.{_≡_, refl, sym, _∙_, ap, subst, subst₂, _≡⟨_⟩_, _∎}
+use mathlib.Core.Path.{_≡_, refl, sym, _∙_, ap, subst, subst₂}
 use mathlib.Core.List.{List, [], _∷_, _++_}
-use Prim.Native.Nat.{ℕ, zero, suc, _+_, _<_, _≤_}
+use Prim.Native.Nat.{ℕ, _<_}
 use native.Mathlib.Nat.{add-zero}
 use native.Mathlib.Omega.{arith}
-use borrow.Author.Tests.{lt-ltb, ltb-true, ne-eqb, eqb-false, not-true}
+use borrow.Author.Tests.{lt-ltb, ne-eqb}
 use lib.ListN.{length, drop}
-use lib.Dec.{ltb, eqb}
-use Rattle.gates.specs.Gate.{Kind, X, Y, Z, H, S, S†, T, T†, Pair, CNOT, CZ, Gate, on, pair, Meant, one, two, unknown, meant, Fits}
-use Rattle.circuits.specs.Reading.{Reading, read, number, qubit, target-qubit, operands, gate, gates}
+use Rattle.gates.specs.Gate.{X, Y, Z, H, S, S†, T, T†, CNOT, CZ, Gate, on, pair, Meant, one, two, unknown, meant, Fits}
+use Rattle.circuits.specs.Reading.{read, number, qubit, target-qubit, operands, gate, gates}
 use Rattle.circuits.specs.Codes.{kind-code, pair-code, gate-code}
 use Rattle.encodings.specs.Encoding.{number-bytes, operand-bytes, gate-bytes, gates-bytes, Bytes}
 use Rattle.circuits.specs.Within.{All-fit}
 use Rattle.circuits.proofs.Readings.{read-value, read-next, refused-read, parts, gates-step}
-use Rattle.circuits.proofs.Within.{qubit-checked, target-checked}
+use Rattle.circuits.proofs.Checks.{qubit-checked, target-checked}
 use Rattle.circuits.proofs.Codes.{kind-meant, pair-meant, meant-one, meant-two}
 use Rattle.encodings.proofs.Spelling.{Spelled, join, split}
 use Rattle.encodings.proofs.Numbers.{number-spelled, number-reads}
 
 -- ---- codes take one byte
 
-small-code : (g : Gate) → gate-code g < 2097152
+pub small-code : (g : Gate) → gate-code g < 2097152
 small-code (on X q) = omega arith
 small-code (on Y q) = omega arith
 small-code (on Z q) = omega arith

@@ -1,7 +1,6 @@
 -- A number is read exactly where its encoding stands.
 -- Assumes nothing.
-use mathlib.Core.Path.{_≡_, refl, sym, _∙_, ap, ap₂, subst, _≡⟨_⟩_, _∎}
-use mathlib.Core.Logic.{⊎-elim}
+use mathlib.Core.Path.{_≡_, sym, _∙_, ap, ap₂, subst, _≡⟨_⟩_, _∎}
 use mathlib.Core.List.{List, [], _∷_, _++_}
 use Prim.Native.Nat.{ℕ, _+_, _*_, _/_, _%_, _<_, _≤_}
 use native.Mathlib.Decide.{decLt}
@@ -10,21 +9,21 @@ use borrow.Author.Tests.{lt-ltb, le-ltb, ne-eqb}
 use lib.ListN.{length, drop}
 use Rattle.circuits.specs.Reading.{read, first-group, number}
 use Rattle.encodings.specs.Encoding.{Bytes, number-bytes}
-use Rattle.circuits.proofs.Forms.{Form, one-group, two-groups, three-groups, number-form}
+use Rattle.circuits.proofs.Forms.{Form, single, double, triple, number-form}
 use Rattle.encodings.proofs.Spelling.{Spelled, spelled, drop-bytes}
 
 -- ---- the bytes of a number
 
 module _ (v : ℕ) where
-  one-byte : v < 128 → number-bytes v ≡ v ∷ []
+  pub one-byte : v < 128 → number-bytes v ≡ v ∷ []
   unfolding number-bytes
   one-byte small = rw (lt-ltb v 128 small)
 
-  two-bytes : 128 ≤ v → v < 16384 → number-bytes v ≡ (v % 128 + 128) ∷ v / 128 ∷ []
+  pub two-bytes : 128 ≤ v → v < 16384 → number-bytes v ≡ (v % 128 + 128) ∷ v / 128 ∷ []
   unfolding number-bytes
   two-bytes large small = rw (le-ltb v 128 large, lt-ltb v 16384 small)
 
-  three-bytes : 16384 ≤ v → number-bytes v ≡ (v % 128 + 128) ∷ (v / 128 % 128 + 128) ∷ v / 16384 ∷ []
+  pub three-bytes : 16384 ≤ v → number-bytes v ≡ (v % 128 + 128) ∷ (v / 128 % 128 + 128) ∷ v / 16384 ∷ []
   unfolding number-bytes
   three-bytes large = rw (le-ltb v 128 (omega arith), le-ltb v 16384 large)
 
@@ -47,12 +46,12 @@ record Shown (at : ℕ) (t : List ℕ) (v next : ℕ) : Type 0 where
   here : t ≡ number-bytes v ++ rest
 
 form-shown : {at v next : ℕ} {t : List ℕ} → Bytes t → Form at t v next → Shown at t v next
-form-shown b (one-group {x} {t} hx) =
+form-shown b (single {x} {t} hx) =
     record { after = rw (one-byte x hx); rest = t; here = rw (one-byte x hx) }
-form-shown b (two-groups {x} {y} {t} hx hy y>0) =
+form-shown b (double {x} {y} {t} hx hy y>0) =
     let e = two-back x y (b .0) hx hy y>0 in
     record { after = rw e; rest = t; here = rw e }
-form-shown b (three-groups {x} {y} {z} {t} hx hy hz z>0) =
+form-shown b (triple {x} {y} {z} {t} hx hy hz z>0) =
     let e = three-back x y z (b .0) (b .1 .0) hx hy hz z>0 in
     record { after = rw e; rest = t; here = rw e }
 

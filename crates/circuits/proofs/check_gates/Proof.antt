@@ -1,7 +1,6 @@
 -- `circuits::check_gates` meets its contract. The loop's invariant: the list's answer is that of the gates still to be read, from
 -- the present offset on. The measure is the number of those gates.
 -- Assumes nothing.
-use Prim.Native.Nat.{_-_}
 use mathlib.Core.Path.{_≡_, sym, _∙_}
 use borrow.Author.Needs.{needs}
 use Rattle.circuits.specs.Reading.{gate, body}

@@ -1,6 +1,5 @@
 -- `circuits::read_gate` meets its contract: the number that was read is the code, and the decision says what it means.
 -- Assumes nothing.
-use mathlib.Core.Path.{_∙_}
 use borrow.Author.Needs.{needs}
 use Rattle.circuits.specs.Reading.{number, gate}
 use Rattle.circuits.proofs.Answers.{number-read, number-refused}
@@ -48,7 +47,7 @@ returns-3 c =
     let d = c .before .before .before .before in
     let v = d .before .before in
     rw (number-read (number _ _) (v .before .before .read-number .ensures) (v .value .given .1))
-    (c .read-operands .ensures ∙ decided-known _ (d .decide .ensures) _ _ _ _ (c .before .before .rule .given .1))
+    (decided-known _ (d .decide .ensures) _ _ _ _ (c .before .before .rule .given .1) (c .read-operands .ensures))
 
 pub read-gate-spec : {M : Type 1} → statement M
 read-gate-spec =

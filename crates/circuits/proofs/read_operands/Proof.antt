@@ -1,6 +1,5 @@
 -- `circuits::read_operands` meets its contract: the first qubit is the definition's, and so is whether a second follows.
 -- Assumes nothing.
-use mathlib.Core.Path.{_∙_}
 use borrow.Author.Needs.{needs}
 use borrow.Author.Tests.{eq-eqb, ne-eqb}
 use Rattle.circuits.specs.Reading.{qubit}
@@ -26,8 +25,8 @@ returns c = rw (number-refused (qubit _ _ _) (c .before .before .before .read-qu
 returns-2 : tie.Need-returns-2
 returns-2 c =
     let v = c .before .before .before in
-    c .read-target .ensures
-    ∙ rw (number-read (qubit _ _ _) (v .before .before .read-qubit .ensures) (v .value .given .1), eq-eqb _ _ (c .before .if1 .taken))
+    rw (number-read (qubit _ _ _) (v .before .before .read-qubit .ensures) (v .value .given .1), eq-eqb _ _ (c .before .if1 .taken))
+    (c .read-target .ensures)
 
 returns-3 : tie.Need-returns-3
 returns-3 c =
