@@ -1,0 +1,9 @@
+pub mod Arms
+pub mod Entries
+pub mod Extensions
+pub mod Integers
+pub mod Matrices
+pub mod Rings
+pub mod Rotations
+pub mod Sums
+pub mod Widths

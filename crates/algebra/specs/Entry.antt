@@ -1,5 +1,5 @@
 -- Entries and their arithmetic, in whole numbers of any size. Definitions only; their laws are in proofs/Entries.antt.
-use lib.IntN.{ℤ, pos, negsuc, negℤ, _+ℤ_, _-ℤ_, _*ℤ_}
+use lib.IntN.{ℤ, pos, negℤ, _+ℤ_, _-ℤ_, _*ℤ_}
 use Prim.Native.Nat.{ℕ, zero, suc}
 use Rattle.algebra.specs.declared.Entry.{Entry}
 

@@ -1,3 +1,4 @@
 pub mod Entry
 pub mod Width
 pub mod Matrix
+pub mod Wide

@@ -1,5 +1,5 @@
 -- The width rule. Definitions only; its laws are in proofs/Widths.antt.
-use mathlib.Core.Bool.{Bool, true, false, cond, _&&_}
+use mathlib.Core.Bool.{Bool, cond, _&&_}
 use Prim.Native.Nat.{ℕ, _^_, _-_}
 use lib.Dec.{leb}
 use lib.IntN.{ℤ, pos, negℤ}

@@ -1,13 +1,14 @@
 -- A gate's data: how it acts on its target where its controls are 1, and what that does to a matrix's entries.
 -- Definitions only; that the data are the published matrices' is in proofs/Rules.antt.
+use mathlib.Core.Path.{_≡_}
 use mathlib.Core.Bool.{Bool, true, false, not, cond, _&&_, _||_, Bool·beq}
-use mathlib.Core.List.{List, [], _∷_}
+use mathlib.Core.List.{[], _∷_}
 use Prim.Native.Nat.{ℕ, zero, suc}
 use lib.ListN.{set}
 use Rattle.algebra.specs.declared.Entry.{Entry}
 use Rattle.algebra.specs.Entry.{𝟘, 𝟙, neg, _⊕_, _⊖_, turned, w8^}
-use Rattle.algebra.specs.Matrix.{Bits, Matrix}
-use Rattle.gates.specs.Gate.{Kind, X, Y, Z, H, S, S†, T, T†, Pair, CNOT, CZ, Gate, on, pair, Meant, one, two, unknown, meant, is, bit, table}
+use Rattle.algebra.specs.Matrix.{Bits}
+use Rattle.gates.specs.Gate.{Kind, X, Y, Z, H, S, S†, T, T†, Pair, CNOT, CZ, Gate, on, pair, Meant, one, two, unknown, meant, is, bit, table, small, small-pair, inverse-kind}
 use Rattle.gates.specs.declared.Phases.{Phases}
 use Rattle.gates.specs.declared.Rule.{Rule}
 use Rattle.gates.specs.declared.Decision.{Decision}
@@ -57,17 +58,38 @@ phase p true = p .one
 abbrev pub flipped : Rule → Bool → Bool
 flipped rule x = cond (rule .flips) (not x) x
 
--- row by row: row x has its one entry in column flipped x
-abbrev pub left-matrix : Rule → Bool → Bool → Entry
-left-matrix rule x y = cond (rule .mixes) (table 𝟙 𝟙 𝟙 (neg 𝟙) x y) (cond (Bool·beq (flipped rule x) y) (w8^ (phase (rule .left) x)) 𝟘)
+-- by the target's bit of the entry made, then of the entry it is made from: both with H's signs, or the flipped bit's with a power of w8
+abbrev pub acting : Rule → Phases → Bool → Bool → Entry
+acting rule p x y = cond (rule .mixes) (table 𝟙 𝟙 𝟙 (neg 𝟙) x y) (cond (Bool·beq (flipped rule x) y) (w8^ (phase p x)) 𝟘)
 
--- column by column: column y has its one entry in row flipped y
+-- from the left a row is made from rows, from the right a column from columns
+abbrev pub left-matrix : Rule → Bool → Bool → Entry
+left-matrix rule x y = acting rule (rule .left) x y
+
 abbrev pub right-matrix : Rule → Bool → Bool → Entry
-right-matrix rule x y = cond (rule .mixes) (table 𝟙 𝟙 𝟙 (neg 𝟙) x y) (cond (Bool·beq (flipped rule y) x) (w8^ (phase (rule .right) y)) 𝟘)
+right-matrix rule x y = acting rule (rule .right) y x
 
 -- with a control: the identity where the control is 0
 abbrev pub controlled : (Bool → Bool → Entry) → Bool → Bool → Bool → Bool → Entry
 controlled m c t c′ t′ = cond (Bool·beq c c′) (cond c (m t t′) (cond (Bool·beq t t′) 𝟙 𝟘)) 𝟘
+
+-- what a decision says of the code: the published matrix, made row by row and column by column, and the inverse's code
+abbrev pub Published : Meant → Decision → Type 0
+Published (one k) (Known rule) =
+    ((x y : Bool) → left-matrix rule x y ≡ small k x y) × ((x y : Bool) → right-matrix rule x y ≡ small k x y)
+    × (meant (rule .inverse) ≡ one (inverse-kind k))
+Published (one k) Unknown = ⊥
+Published (two k) (Known rule) =
+    ((c t c′ t′ : Bool) → controlled (left-matrix rule) c t c′ t′ ≡ small-pair k c t c′ t′)
+    × ((c t c′ t′ : Bool) → controlled (right-matrix rule) c t c′ t′ ≡ small-pair k c t c′ t′)
+    × (meant (rule .inverse) ≡ two k)
+Published (two k) Unknown = ⊥
+Published unknown (Known rule) = ⊥
+Published unknown Unknown = Unit {0}
+
+pub record Decided (code : ℕ) (r : Decision) : Type 0 where
+  pub is : r ≡ decision code
+  pub published : Published (meant code) r
 
 -- ---- what a gate does to the entries, as a function of the bits of one side
 

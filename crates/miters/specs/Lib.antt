@@ -1,0 +1,3 @@
+pub mod Miter
+pub mod Report
+pub mod Run

@@ -1,0 +1,4 @@
+pub mod Counts
+pub mod Filling
+pub mod Makers
+pub mod Proportions

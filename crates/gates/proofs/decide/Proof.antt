@@ -1,28 +1,25 @@
 -- `gates::decide` meets its contract: at each code the table's entry, and past the last code none. Assumes nothing.
 use mathlib.Core.Path.{_≡_, refl, sym, ap, _∙_}
-use Prim.Native.Nat.{ℕ, suc, _≤_, zero-le}
-use native.Mathlib.Omega.{arith}
+use Prim.Native.Nat.{ℕ, _≤_, zero-le}
 use borrow.Author.Needs.{needs}
 use lib.ListN.{List·getD-eq-default}
+use Rattle.algebra.proofs.Arms.{past}
 use Rattle.gates.specs.Gate.{codes, meant, unknown}
-use Rattle.gates.specs.Rule.{rule-of, decision}
+use Rattle.gates.specs.Rule.{rule-of, decision, Decided}
 use Rattle.gates.specs.declared.Rule.{Rule}
-use Rattle.gates.specs.declared.Decision.{Decision}
 use Rattle.gates.specs.declared.Decision.the-variants.{Known, Unknown}
+use Rattle.gates.proofs.Rules.{decided}
 use Rattle.gates.proofs.decide.Statement.{statement}
 use Rattle.gates.proofs.decide.Tie as tie
 
 -- ---- the table at a code
 
-known : {rule rule′ : Rule} {code n : ℕ} → rule ≡ rule′ → code ≡ n → decision n ≡ Known rule′ → Known rule ≡ decision code
-known made at entry = ap Known made ∙ sym entry ∙ ap decision (sym at)
+known : {rule rule′ : Rule} {code n : ℕ} → rule ≡ rule′ → code ≡ n → decision n ≡ Known rule′ → Decided code (Known rule)
+known {code = code} made at entry = decided code (ap Known made ∙ sym entry ∙ ap decision (sym at))
 
-beyond : (code : ℕ) → 10 ≤ code → Unknown ≡ decision code
+beyond : (code : ℕ) → 10 ≤ code → Decided code Unknown
 unfolding decision meant
-beyond code h = ap rule-of (sym (List·getD-eq-default codes unknown h))
-
-past : {n code : ℕ} → n ≤ code → (code ≡ n → ⊥) → suc n ≤ code
-past h differs = omega arith
+beyond code h = decided code (ap rule-of (sym (List·getD-eq-default codes unknown h)))
 
 -- ---- the needs
 

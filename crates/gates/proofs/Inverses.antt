@@ -1,0 +1,173 @@
+-- A gate times its inverse, either way round, is a power of 2 times the identity: √2 twice for each H.
+-- Assumes nothing.
+use mathlib.Core.Path.{_≡_, refl, _∙_, ap, ap₂, subst, _≡⟨_⟩_, _∎}
+use mathlib.Core.Bool.{Bool, true, false, not, cond, _&&_, _||_, Bool·beq}
+use mathlib.Core.List.{[], _∷_}
+use Prim.Native.Nat.{ℕ, zero, suc, _+_, _<_}
+use native.Mathlib.Omega.{arith}
+use lib.ListN.{length, set}
+use lib.Seq.{getD-set-same}
+use Rattle.algebra.specs.declared.Entry.{Entry}
+use Rattle.algebra.specs.Entry.{𝟘, 𝟙, neg, _⊕_, _⊗_, turned, times-w8, times-√2, √2^}
+use Rattle.algebra.specs.Matrix.{Bits, product, same, identity}
+use Rattle.algebra.proofs.Rings.{mul-zero}
+use Rattle.algebra.proofs.Entries.{entries, ⊕-zero, cond-one, cond-cond}
+use Rattle.algebra.proofs.Matrices.{Alike, scaled, product-alike, _≈⟨_⟩_, _■}
+use Rattle.gates.specs.Gate.{Kind, X, Y, Z, H, S, S†, T, T†, Pair, CNOT, CZ, Gate, on, pair, is, bit, agree, matrix, Fits, inverse, inverse-kind, halves}
+use Rattle.gates.specs.Rule.{left-matrix, gate-rule, kind-rule, pair-rule, controls, target, all-set}
+use Rattle.gates.proofs.Naming.{is-refl, is-sound, without-self, agree-none, agree-without, agree-set}
+use Rattle.gates.proofs.Rules.{four}
+use Rattle.gates.proofs.LocalRules.{where-set, on-target, row-times, on-target-sum, matrix-left, target-fits, all-set-none}
+
+-- ---- the small matrices
+
+-- row x and column y of a product of two small matrices, where the controls are as told
+abbrev small-product : (Bool → Bool → Entry) → (Bool → Bool → Entry) → Bool → Bool → Bool → Entry
+small-product m m′ active x y = row-times (where-set m active) x (λ b. where-set m′ active b y)
+
+-- it is √2 to the power k times the identity
+abbrev Undone : (Bool → Bool → Entry) → (Bool → Bool → Entry) → ℕ → Bool → Bool → Bool → Type 0
+Undone m m′ k active x y = small-product m m′ active x y ≡ cond (Bool·beq x y) (√2^ k) 𝟘
+
+kind-undone : (k : Kind) (q : ℕ) (x y : Bool)
+    → Undone (left-matrix (kind-rule k)) (left-matrix (kind-rule (inverse-kind k))) (halves (on k q) + halves (on k q)) true x y
+unfolding 𝟘 𝟙 neg _⊕_ _⊗_ turned times-w8 times-√2 √2^
+kind-undone X q = four _ refl refl refl refl
+kind-undone Y q = four _ refl refl refl refl
+kind-undone Z q = four _ refl refl refl refl
+kind-undone H q = four _ refl refl refl refl
+kind-undone S q = four _ refl refl refl refl
+kind-undone S† q = four _ refl refl refl refl
+kind-undone T q = four _ refl refl refl refl
+kind-undone T† q = four _ refl refl refl refl
+
+pair-undone : (k : Pair) (active x y : Bool) → Undone (left-matrix (pair-rule k)) (left-matrix (pair-rule k)) 0 active x y
+unfolding 𝟘 𝟙 neg _⊕_ _⊗_ turned times-w8 times-√2 √2^
+pair-undone CNOT true = four _ refl refl refl refl
+pair-undone CNOT false = four _ refl refl refl refl
+pair-undone CZ true = four _ refl refl refl refl
+pair-undone CZ false = four _ refl refl refl refl
+
+gate-undone : (g : Gate) (l : Bits) (x y : Bool)
+    → Undone (left-matrix (gate-rule g)) (left-matrix (gate-rule (inverse g))) (halves g + halves g) (all-set (controls g) l) x y
+gate-undone (on k q) l x y = rw (all-set-none l) (kind-undone k q x y)
+gate-undone (pair k p q) l x y = pair-undone k (all-set (is p) l) x y
+
+-- ---- the product of two small matrices on one target
+
+all-set-set : (P : ℕ → Bool) (l : Bits) (q : ℕ) (b : Bool) → P q ≡ false → all-set P (set l q b) ≡ all-set P l
+all-set-set P [] q b e = refl
+all-set-set P (x ∷ l) zero b e = rw e
+all-set-set P (x ∷ l) (suc q) b e = ap (λ k. (not (P 0) || x) && k) (all-set-set (λ i. P (suc i)) l q b e)
+
+row-times-cond : (m : Bool → Bool → Entry) (x a : Bool) (f : Bool → Entry) → row-times m x (λ b. cond a (f b) 𝟘) ≡ cond a (row-times m x f) 𝟘
+row-times-cond m x true f = refl
+row-times-cond m x false f = ap₂ _⊕_ (mul-zero entries (m x false)) (mul-zero entries (m x true)) ∙ ⊕-zero 𝟘
+
+on-target-product : (n : ℕ) (m m′ : Bool → Bool → Entry) (P : ℕ → Bool) (q : ℕ) → q < n → P q ≡ false → (r c : Bits) → length r ≡ n
+    → product n (on-target m P q) (on-target m′ P q) r c ≡ cond (agree (is q) r c) (small-product m m′ (all-set P r) (bit r q) (bit c q)) 𝟘
+unfolding product
+on-target-product n m m′ P q h free r c e =
+    on-target-sum n m P q (λ x. on-target m′ P q x c) r h e
+    ∙ ap₂ (λ y z. row (bit r q) false ⊗ y ⊕ row (bit r q) true ⊗ z) (at false) (at true)
+    ∙ row-times-cond row (bit r q) (agree (is q) r c) column
+  where
+    row : Bool → Bool → Entry
+    row = where-set m (all-set P r)
+
+    column : Bool → Entry
+    column b = where-set m′ (all-set P r) b (bit c q)
+
+    at : (b : Bool) → on-target m′ P q (set r q b) c ≡ cond (agree (is q) r c) (column b) 𝟘
+    at b =
+        cond (agree (is q) (set r q b) c) (where-set m′ (all-set P (set r q b)) (bit (set r q b) q) (bit c q)) 𝟘
+        ≡⟨ ap₂ (λ a k. cond a (where-set m′ k (bit (set r q b) q) (bit c q)) 𝟘) (agree-set (is q) r c q b (is-refl q)) (all-set-set P r q b free) ⟩
+        cond (agree (is q) r c) (where-set m′ (all-set P r) (bit (set r q b) q) (bit c q)) 𝟘
+        ≡⟨ ap (λ x. cond (agree (is q) r c) (where-set m′ (all-set P r) x (bit c q)) 𝟘) (getD-set-same r q b false (omega arith)) ⟩
+        cond (agree (is q) r c) (column b) 𝟘 ∎
+
+-- ---- gates
+
+agree-same : (q : ℕ) (r c : Bits) → q < length r → (agree (is q) r c && Bool·beq (bit r q) (bit c q)) ≡ same r c
+agree-same q r c h = agree-without (is q) r c q h ∙ ap (λ named. agree named r c) (without-self q) ∙ agree-none r c
+
+controls-target : (n : ℕ) (g : Gate) → Fits n g → controls g (target g) ≡ false
+controls-target n (on k q) h = refl
+controls-target n (pair k p q) h = apart (is p q) refl
+  where
+    apart : (b : Bool) → is p q ≡ b → b ≡ false
+    apart true e = absurd (h .2 (is-sound p q e))
+    apart false e = refl
+
+matrix-alike : (n : ℕ) (g : Gate) → Fits n g → Alike n (matrix g) (on-target (left-matrix (gate-rule g)) (controls g) (target g))
+matrix-alike n g h = record { at = λ r c e f. matrix-left n g h r c e }
+
+-- the inverse has the same controls and target
+inverse-alike : (n : ℕ) (g : Gate) → Fits n g → Alike n (matrix (inverse g)) (on-target (left-matrix (gate-rule (inverse g))) (controls g) (target g))
+inverse-alike n (on k q) h = matrix-alike n (on (inverse-kind k) q) h
+inverse-alike n (pair k p q) h = matrix-alike n (pair k p q) h
+
+pub gate-inverse : (n : ℕ) (g : Gate) → Fits n g → Alike n (product n (matrix g) (matrix (inverse g))) (scaled (√2^ (halves g + halves g)) identity)
+unfolding identity
+gate-inverse n g h =
+    product n (matrix g) (matrix (inverse g)) ≈⟨ product-alike n (matrix-alike n g h) (inverse-alike n g h) ⟩
+    product n (on-target m P q) (on-target m′ P q) ≈⟨ record { at = at-entries } ⟩
+    scaled s (λ r c. cond (same r c) 𝟙 𝟘) ■
+  where
+    m : Bool → Bool → Entry
+    m = left-matrix (gate-rule g)
+
+    m′ : Bool → Bool → Entry
+    m′ = left-matrix (gate-rule (inverse g))
+
+    P : ℕ → Bool
+    P = controls g
+
+    q : ℕ
+    q = target g
+
+    q<n : q < n
+    q<n = target-fits n g h
+
+    s : Entry
+    s = √2^ (halves g + halves g)
+
+    at-entries : (r c : Bits) → length r ≡ n → length c ≡ n → product n (on-target m P q) (on-target m′ P q) r c ≡ s ⊗ cond (same r c) 𝟙 𝟘
+    at-entries r c e f =
+        product n (on-target m P q) (on-target m′ P q) r c ≡⟨ on-target-product n m m′ P q q<n (controls-target n g h) r c e ⟩
+        cond (agree (is q) r c) (small-product m m′ (all-set P r) (bit r q) (bit c q)) 𝟘
+        ≡⟨ ap (λ x. cond (agree (is q) r c) x 𝟘) (gate-undone g r (bit r q) (bit c q)) ⟩
+        cond (agree (is q) r c) (cond (Bool·beq (bit r q) (bit c q)) s 𝟘) 𝟘 ≡⟨ cond-cond (agree (is q) r c) (Bool·beq (bit r q) (bit c q)) s ⟩
+        cond (agree (is q) r c && Bool·beq (bit r q) (bit c q)) s 𝟘 ≡⟨ ap (λ b. cond b s 𝟘) (agree-same q r c (omega (arith, q<n))) ⟩
+        cond (same r c) s 𝟘 ≡⟨ cond-one (same r c) s ⟩
+        s ⊗ cond (same r c) 𝟙 𝟘 ∎
+
+-- ---- the inverse's inverse is the gate
+
+pub inverse-fits : (n : ℕ) (g : Gate) → Fits n g → Fits n (inverse g)
+inverse-fits n (on k q) h = h
+inverse-fits n (pair k p q) h = h
+
+kind-involutive : (k : Kind) (q : ℕ) → (inverse-kind (inverse-kind k) ≡ k) × (halves (on (inverse-kind k) q) ≡ halves (on k q))
+kind-involutive X q = (refl, refl)
+kind-involutive Y q = (refl, refl)
+kind-involutive Z q = (refl, refl)
+kind-involutive H q = (refl, refl)
+kind-involutive S q = (refl, refl)
+kind-involutive S† q = (refl, refl)
+kind-involutive T q = (refl, refl)
+kind-involutive T† q = (refl, refl)
+
+inverse-inverse : (g : Gate) → inverse (inverse g) ≡ g
+inverse-inverse (on k q) = ap (λ j. on j q) (kind-involutive k q .0)
+inverse-inverse (pair k p q) = refl
+
+pub inverse-halves : (g : Gate) → halves (inverse g) ≡ halves g
+inverse-halves (on k q) = kind-involutive k q .1
+inverse-halves (pair k p q) = refl
+
+pub inverse-gate : (n : ℕ) (g : Gate) → Fits n g → Alike n (product n (matrix (inverse g)) (matrix g)) (scaled (√2^ (halves g + halves g)) identity)
+inverse-gate n g h =
+    subst (λ k. Alike n (product n (matrix (inverse g)) (matrix g)) (scaled (√2^ (k + k)) identity)) (inverse-halves g)
+    (subst (λ x. Alike n (product n (matrix (inverse g)) (matrix x)) (scaled (√2^ (halves (inverse g) + halves (inverse g))) identity)) (inverse-inverse g)
+    (gate-inverse n (inverse g) (inverse-fits n g h)))

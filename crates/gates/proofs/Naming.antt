@@ -1,0 +1,120 @@
+-- Bit lists that agree off the named qubits: laws of the agreement, and sums over the lists that agree with a given one.
+-- Assumes nothing.
+use mathlib.Core.Path.{_≡_, refl, sym, _∙_, ap, ap₂, fun-ext}
+use mathlib.Core.Bool.{Bool, true, false, not, cond, _&&_, _||_, Bool·beq, and-true, and-false, and-assoc, and-not-self, true≢false}
+use mathlib.Core.List.{[], _∷_}
+use Prim.Native.Nat.{ℕ, zero, suc, _<_}
+use native.Mathlib.Omega.{arith}
+use lib.ListN.{length, set}
+use Rattle.algebra.specs.declared.Entry.{Entry}
+use Rattle.algebra.specs.Entry.{𝟘, _⊕_}
+use Rattle.algebra.specs.Matrix.{Bits, total, same}
+use Rattle.algebra.proofs.Rings.{zero-add}
+use Rattle.algebra.proofs.Entries.{entries, ⊕-zero}
+use Rattle.algebra.proofs.Sums.{beq-sym, at-bit, total-zero}
+use Rattle.gates.specs.Gate.{is, bit, agree}
+
+-- ---- names
+
+pub is-refl : (q : ℕ) → is q q ≡ true
+is-refl zero = refl
+is-refl (suc q) = is-refl q
+
+pub is-sound : (p q : ℕ) → is p q ≡ true → p ≡ q
+is-sound zero zero e = refl
+is-sound zero (suc q) e = absurd (true≢false (sym e))
+is-sound (suc p) zero e = absurd (true≢false (sym e))
+is-sound (suc p) (suc q) e = ap suc (is-sound p q e)
+
+-- the set without q
+abbrev pub without : (ℕ → Bool) → ℕ → ℕ → Bool
+without named q i = named i && not (is q i)
+
+pub without-self : (q : ℕ) → without (is q) q ≡ (λ i. false)
+without-self q = fun-ext (λ i. and-not-self (is q i))
+
+pub without-first : (p q : ℕ) → (p ≡ q → ⊥) → without (λ i. is p i || is q i) p ≡ is q
+without-first p q apart = fun-ext (λ i. cases i (is p i) (is q i) refl refl)
+  where
+    cases : (i : ℕ) (a b : Bool) → is p i ≡ a → is q i ≡ b → ((a || b) && not a) ≡ b
+    cases i true true e f = absurd (apart (is-sound p i e ∙ sym (is-sound q i f)))
+    cases i true false e f = refl
+    cases i false true e f = refl
+    cases i false false e f = refl
+
+-- ---- agreement
+
+pub agree-sym : (named : ℕ → Bool) (r c : Bits) → agree named r c ≡ agree named c r
+agree-sym named [] [] = refl
+agree-sym named [] (y ∷ c) = refl
+agree-sym named (x ∷ r) [] = refl
+agree-sym named (x ∷ r) (y ∷ c) = ap₂ (λ b k. (named 0 || b) && k) (beq-sym x y) (agree-sym (λ i. named (suc i)) r c)
+
+pub agree-none : (r c : Bits) → agree (λ i. false) r c ≡ same r c
+agree-none [] [] = refl
+agree-none [] (y ∷ c) = refl
+agree-none (x ∷ r) [] = refl
+agree-none (x ∷ r) (y ∷ c) = ap (λ k. Bool·beq x y && k) (agree-none r c)
+
+-- to agree in one named qubit too is to agree with that qubit not named
+pub agree-without : (named : ℕ → Bool) (r c : Bits) (q : ℕ) → q < length r → (agree named r c && Bool·beq (bit r q) (bit c q)) ≡ agree (without named q) r c
+agree-without named [] c q h = absurd (omega arith)
+agree-without named (x ∷ r) [] q h = refl
+agree-without named (x ∷ r) (y ∷ c) zero h = simp and-true (here (named 0) (Bool·beq x y) (agree (λ i. named (suc i)) r c))
+  where
+    here : (a b k : Bool) → ((a || b) && k && b) ≡ ((a && false || b) && k)
+    here true true k = and-true k
+    here true false k = and-false k
+    here false true k = and-true k
+    here false false k = refl
+agree-without named (x ∷ r) (y ∷ c) (suc q) h =
+    and-assoc (named 0 || Bool·beq x y) (agree (λ i. named (suc i)) r c) (Bool·beq (bit r q) (bit c q))
+    ∙ ap₂ (λ a k. (a || Bool·beq x y) && k) (sym (and-true (named 0))) (agree-without (λ i. named (suc i)) r c q (omega arith))
+
+-- to set a named bit changes no agreement
+pub agree-set : (named : ℕ → Bool) (r c : Bits) (q : ℕ) (b : Bool) → named q ≡ true → agree named (set r q b) c ≡ agree named r c
+agree-set named [] c q b e = refl
+agree-set named (x ∷ r) [] zero b e = refl
+agree-set named (x ∷ r) [] (suc q) b e = refl
+agree-set named (x ∷ r) (y ∷ c) zero b e = rw e
+agree-set named (x ∷ r) (y ∷ c) (suc q) b e = ap (λ k. (named 0 || Bool·beq x y) && k) (agree-set (λ i. named (suc i)) r c q b e)
+
+-- ---- sums over the lists that agree with r off the named qubits
+
+abbrev pub spread : (ℕ → Bool) → Bits → (Bits → Entry) → Entry
+spread named [] f = f []
+spread named (x ∷ r) f =
+    let below : (Bits → Entry) → Entry = spread (λ i. named (suc i)) r in
+    cond (named 0) (below (at-bit false f) ⊕ below (at-bit true f)) (below (at-bit x f))
+
+pub total-agree : (n : ℕ) (named : ℕ → Bool) (r : Bits) (f : Bits → Entry) → length r ≡ n → total n (λ l. cond (agree named r l) (f l) 𝟘) ≡ spread named r f
+unfolding total
+total-agree zero named [] f e = refl
+total-agree (suc n) named [] f e = absurd (omega arith)
+total-agree zero named (x ∷ r) f e = absurd (omega arith)
+total-agree (suc n) named (x ∷ r) f e = first (named 0) x (λ b. total-agree n (λ i. named (suc i)) r (at-bit b f) (omega arith))
+  where
+    rest : Bits → Bool
+    rest = agree (λ i. named (suc i)) r
+
+    below : Bool → Entry
+    below b = spread (λ i. named (suc i)) r (at-bit b f)
+
+    with-bit : Bool → Bool → Bool → Entry
+    with-bit free x b = total n (λ l. cond ((free || Bool·beq x b) && rest l) (f (b ∷ l)) 𝟘)
+
+    first : (free x : Bool) → ((b : Bool) → total n (λ l. cond (rest l) (f (b ∷ l)) 𝟘) ≡ below b)
+        → with-bit free x false ⊕ with-bit free x true ≡ cond free (below false ⊕ below true) (below x)
+    first true x h = ap₂ _⊕_ (h false) (h true)
+    first false true h = ap₂ _⊕_ (total-zero n) (h true) ∙ zero-add entries (below true)
+    first false false h = ap₂ _⊕_ (h false) (total-zero n) ∙ ⊕-zero (below false)
+
+spread-none : (r : Bits) (f : Bits → Entry) → spread (λ i. false) r f ≡ f r
+spread-none [] f = refl
+spread-none (x ∷ r) f = spread-none r (at-bit x f)
+
+-- one named qubit: two lists
+pub spread-one : (q : ℕ) (r : Bits) (f : Bits → Entry) → q < length r → spread (is q) r f ≡ f (set r q false) ⊕ f (set r q true)
+spread-one q [] f h = absurd (omega arith)
+spread-one zero (x ∷ r) f h = ap₂ _⊕_ (spread-none r (at-bit false f)) (spread-none r (at-bit true f))
+spread-one (suc q) (x ∷ r) f h = spread-one q r (at-bit x f) (omega arith)

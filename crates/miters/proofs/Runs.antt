@@ -1,0 +1,259 @@
+-- Any two runs that are not refused agree: one report and one used part, whatever the schedules, widths, stores and their
+-- earlier contents; and that part is the miter's reduced diagram.
+-- Assumes nothing.
+use mathlib.Core.Path.{_≡_, refl, sym, _∙_, ap, ap₂, subst, _≡⟨_⟩_, _∎}
+use mathlib.Core.Bool.{Bool, true, false, cond, _&&_, true≢false}
+use mathlib.Core.List.{List, [], _∷_, _++_, map, append-nil}
+use mathlib.Core.Logic.{_↔_}
+use Prim.Native.Nat.{ℕ, zero, suc, _+_, _-_, _<_}
+use native.Mathlib.Nat.{add-zero, zero-add}
+use native.Mathlib.Omega.{arith}
+use lib.Dec.{eqb, leb, leb·suc-zero, leb·suc-suc}
+use lib.IntN.{pos}
+use lib.ListN.{length, take, replicate, length-map}
+use borrow.Author.Tests.{eqb-true}
+use Rattle.algebra.specs.declared.Entry.{Entry}
+use Rattle.algebra.specs.Entry.{𝟘}
+use Rattle.algebra.specs.Matrix.{Bits, Matrix}
+use Rattle.algebra.specs.Width.{entryInWidth}
+use Rattle.gates.specs.Gate.{Gate}
+use Rattle.schedules.specs.Schedule.{count, only-steps, fits}
+use Rattle.diagrams.specs.Diagram.{node, code, Node, Diagram, ReducedOf, levels, place, rows, columns, entries, diagram}
+use Rattle.diagrams.specs.Columns.{Columns, column, held, cleared}
+use Rattle.diagrams.proofs.Tests.{both-true, true-both}
+use Rattle.diagrams.proofs.Places.{length-place, length-halves, place-halves}
+use Rattle.diagrams.proofs.Columns.{take-column}
+use Rattle.diagrams.proofs.Diagrams.{diagram-unique}
+use Rattle.miters.specs.declared.Refusal.{Refusal}
+use Rattle.miters.specs.declared.Refusal.the-variants.{Step as at-step}
+use Rattle.miters.specs.declared.Verdict.the-variants.{Refused}
+use Rattle.miters.specs.Miter.{All-fit, Over, start, Step, stepped, run, steps, miter}
+use Rattle.miters.specs.Report.{finished, refused}
+use Rattle.miters.specs.Run.{Lent, everywhere, in-width, has-room, Ended, done, stopped, follow, ended, Outcome, outcome, judged, used}
+use Rattle.miters.proofs.Schedules.{schedule-miter}
+use Rattle.miters.proofs.Roots.{miter-root}
+
+-- ---- the test of 13 looks at every entry
+
+everywhere-all : (k : ℕ) (test : Bits → Bool) → everywhere k test ≡ true → (l : Bits) → length l ≡ k → test l ≡ true
+everywhere-all zero test e [] h = e
+everywhere-all zero test e (b ∷ l) h = absurd (omega arith)
+everywhere-all (suc k) test e [] h = absurd (omega arith)
+everywhere-all (suc k) test e (b ∷ l) h = everywhere-all k (λ m. test (b ∷ m)) (by-bit b) l (omega arith)
+  where
+    halves : (everywhere k (λ m. test (false ∷ m)) ≡ true) × (everywhere k (λ m. test (true ∷ m)) ≡ true)
+    halves = both-true (everywhere k (λ m. test (false ∷ m))) (everywhere k (λ m. test (true ∷ m))) e
+
+    by-bit : (b : Bool) → everywhere k (λ m. test (b ∷ m)) ≡ true
+    by-bit false = halves .0
+    by-bit true = halves .1
+
+all-everywhere : (k : ℕ) (test : Bits → Bool) → ((l : Bits) → length l ≡ k → test l ≡ true) → everywhere k test ≡ true
+all-everywhere zero test all = all [] refl
+all-everywhere (suc k) test all = true-both
+    (all-everywhere k (λ m. test (false ∷ m)) (λ l h. all (false ∷ l) (ap suc h))) (all-everywhere k (λ m. test (true ∷ m)) (λ l h. all (true ∷ l) (ap suc h)))
+
+pub in-width-iff : (lent : Lent) (n : ℕ) (M : Matrix)
+    → (in-width lent n M ≡ true) ↔ ((r c : Bits) → length r ≡ n → length c ≡ n → entryInWidth (lent .width) (M r c) ≡ true)
+in-width-iff lent n M = (
+  λ e r c p q. let halves = place-halves r c (p ∙ sym q) in
+      ap₂ (λ (x y : Bits). entryInWidth (lent .width) (M x y)) (sym (halves .0)) (sym (halves .1))
+      ∙ everywhere-all (levels n) (λ l. entryInWidth (lent .width) (entries M l)) e (place r c) (length-place n r c p q),
+  λ all. all-everywhere (levels n) (λ l. entryInWidth (lent .width) (entries M l))
+      (λ l h. all (rows l) (columns l) (length-halves n l h .0) (length-halves n l h .1)),
+)
+
+-- ---- how a run ends
+
+abbrev Unstopped : Ended → Type 0
+Unstopped e = (r : Refusal) → e ≡ stopped r → ⊥
+
+module _ (lent : Lent) (n : ℕ) where
+  -- what the first k steps come to
+  abbrev pub after : Over → List Step → ℕ → Matrix
+  after M ss k = run n (take k ss) M .entries
+
+  -- the products of the first k steps are in the width and have room
+  abbrev pub Pass : Over → List Step → ℕ → Type 0
+  Pass M ss k = (i : ℕ) → i < k → (in-width lent n (after M ss (suc i)) ≡ true) × (has-room lent n (after M ss (suc i)) ≡ true)
+
+  -- all steps are taken; or those before step k + 1, whose product has a number outside the width, or is within it and has no room
+  pub data Follows (before : ℕ) (M : Over) (ss : List Step) : Ended → Type 0 where
+    finishes : Pass M ss (length ss) → Follows before M ss (done (before + length ss) (run n ss M))
+    too-wide : (k : ℕ) → k < length ss → Pass M ss k → in-width lent n (after M ss (suc k)) ≡ false
+        → Follows before M ss (stopped (at-step 13 (before + k)))
+    too-full : (k : ℕ) → k < length ss → Pass M ss k → in-width lent n (after M ss (suc k)) ≡ true → has-room lent n (after M ss (suc k)) ≡ false
+        → Follows before M ss (stopped (at-step 14 (before + k)))
+
+  pass-none : (M : Over) (ss : List Step) → Pass M ss 0
+  pass-none M ss i h = absurd (omega arith)
+
+  module _ (before : ℕ) (M : Over) (s : Step) (ss : List Step) where
+    abbrev next : Over
+    next = stepped n s M
+
+    pass-cons : (k : ℕ) → in-width lent n (next .entries) ≡ true → has-room lent n (next .entries) ≡ true → Pass next ss k → Pass M (s ∷ ss) (suc k)
+    pass-cons k wide room pass zero h = (wide, room)
+    pass-cons k wide room pass (suc i) h = pass i (omega arith)
+
+    follows-cons : {e : Ended} → in-width lent n (next .entries) ≡ true → has-room lent n (next .entries) ≡ true
+        → Follows (suc before) next ss e → Follows before M (s ∷ ss) e
+    follows-cons wide room (finishes pass) =
+        subst (λ (k : ℕ). Follows before M (s ∷ ss) (done k (run n ss next))) (omega arith) (finishes (pass-cons (length ss) wide room pass))
+    follows-cons wide room (too-wide k h pass out) =
+        subst (λ (i : ℕ). Follows before M (s ∷ ss) (stopped (at-step 13 i))) (omega arith)
+        (too-wide (suc k) (omega arith) (pass-cons k wide room pass) out)
+    follows-cons wide room (too-full k h pass fit out) =
+        subst (λ (i : ℕ). Follows before M (s ∷ ss) (stopped (at-step 14 i))) (omega arith)
+        (too-full (suc k) (omega arith) (pass-cons k wide room pass) fit out)
+
+    follow-too-wide : in-width lent n (next .entries) ≡ false → follow lent n before (s ∷ ss) M ≡ stopped (at-step 13 before)
+    follow-too-wide wide = rw wide
+
+    follow-too-full : in-width lent n (next .entries) ≡ true → has-room lent n (next .entries) ≡ false
+        → follow lent n before (s ∷ ss) M ≡ stopped (at-step 14 before)
+    follow-too-full wide room = rw (wide, room)
+
+    follow-on : in-width lent n (next .entries) ≡ true → has-room lent n (next .entries) ≡ true
+        → follow lent n before (s ∷ ss) M ≡ follow lent n (suc before) ss next
+    follow-on wide room = rw (wide, room)
+
+    follows-step : (a b : Bool) → in-width lent n (next .entries) ≡ a → has-room lent n (next .entries) ≡ b
+        → Follows (suc before) next ss (follow lent n (suc before) ss next) → Follows before M (s ∷ ss) (follow lent n before (s ∷ ss) M)
+    follows-step false b wide room onward = subst (Follows before M (s ∷ ss))
+        (ap (λ (i : ℕ). stopped (at-step 13 i)) (add-zero before) ∙ sym (follow-too-wide wide)) (too-wide 0 (omega arith) (pass-none M (s ∷ ss)) wide)
+    follows-step true false wide room onward = subst (Follows before M (s ∷ ss))
+        (ap (λ (i : ℕ). stopped (at-step 14 i)) (add-zero before) ∙ sym (follow-too-full wide room)) (too-full 0 (omega arith) (pass-none M (s ∷ ss)) wide room)
+    follows-step true true wide room onward = subst (Follows before M (s ∷ ss)) (sym (follow-on wide room)) (follows-cons wide room onward)
+
+  follow-follows : (before : ℕ) (ss : List Step) (M : Over) → Follows before M ss (follow lent n before ss M)
+  follow-follows before [] M = subst (λ (k : ℕ). Follows before M [] (done k M)) (add-zero before) (finishes (pass-none M []))
+  follow-follows before (s ∷ ss) M =
+      let M′ = stepped n s M in
+      follows-step before M s ss (in-width lent n (M′ .entries)) (has-room lent n (M′ .entries)) refl refl (follow-follows (suc before) ss M′)
+
+  -- the identity has no room, or the steps are followed from it
+  pub data Ends (ss : List Step) : Ended → Type 0 where
+    full-at-once : has-room lent n (start .entries) ≡ false → Ends ss (stopped (at-step 14 0))
+    follows : {e : Ended} → has-room lent n (start .entries) ≡ true → Follows 0 start ss e → Ends ss e
+
+  pub ended-ends : (ss : List Step) → Ends ss (ended lent n ss)
+  unfolding ended
+  ended-ends ss = by-test (has-room lent n (start .entries)) refl
+    where
+      by-test : (b : Bool) → has-room lent n (start .entries) ≡ b → Ends ss (cond b (follow lent n 0 ss start) (stopped (at-step 14 0)))
+      by-test true room = follows room (follow-follows 0 ss start)
+      by-test false room = full-at-once room
+
+  unstopped-done : (ss : List Step) {e : Ended} → Ends ss e → Unstopped e → e ≡ done (length ss) (run n ss start)
+  unstopped-done ss (full-at-once room) unstopped = absurd (unstopped _ refl)
+  unstopped-done ss (follows room (finishes pass)) unstopped = ap (λ (k : ℕ). done k (run n ss start)) (zero-add (length ss))
+  unstopped-done ss (follows room (too-wide k h pass out)) unstopped = absurd (unstopped _ refl)
+  unstopped-done ss (follows room (too-full k h pass fit out)) unstopped = absurd (unstopped _ refl)
+
+-- a schedule that fits takes every gate
+steps-counted : (s : List ℕ) (us vs : List Gate) → count 0 s ≡ length us → count 1 s ≡ length vs → only-steps s ≡ true
+    → length (steps s us vs) ≡ length us + length vs
+steps-counted [] [] [] a b o = refl
+steps-counted [] [] (v ∷ vs) a b o = absurd (omega arith)
+steps-counted [] (u ∷ us) vs a b o = absurd (omega arith)
+steps-counted (zero ∷ s) [] vs a b o = absurd (omega arith)
+steps-counted (zero ∷ s) (u ∷ us) vs a b o = omega (arith, steps-counted s us vs (omega arith) b o)
+steps-counted (suc zero ∷ s) us [] a b o = absurd (omega arith)
+steps-counted (suc zero ∷ s) us (v ∷ vs) a b o = omega (arith, steps-counted s us vs a (omega arith) o)
+steps-counted (suc (suc x) ∷ s) us vs a b o =
+    absurd (true≢false (sym (both-true (leb (suc (suc x)) 1) (only-steps s) o .0) ∙ leb·suc-suc (suc x) 0 ∙ leb·suc-zero x))
+
+steps-length : (s : List ℕ) (us vs : List Gate) → fits (length us) (length vs) s ≡ true → length (steps s us vs) ≡ length us + length vs
+unfolding fits
+steps-length s us vs e =
+    let (u, rest) = both-true (eqb (count 0 s) (length us)) (eqb (count 1 s) (length vs) && only-steps s) e in
+    let (v, o) = both-true (eqb (count 1 s) (length vs)) (only-steps s) rest in
+    steps-counted s us vs (eqb-true (count 0 s) (length us) u) (eqb-true (count 1 s) (length vs) v) o
+
+-- ---- the used part of the first store
+
+used-column : {A B : Type 0} (nought : B) (N : ℕ) (f : A → B) (l : List A) → take (length l) (column nought N (map f l)) ≡ column nought (length l) (map f l)
+used-column nought N f l =
+    let len : length (map f l) ≡ length l = length-map l f in
+    let none-left : length l - length (map f l) ≡ 0 = omega arith in
+    take (length l) (column nought N (map f l)) ≡⟨ ap (λ (k : ℕ). take k (column nought N (map f l))) (sym len) ⟩
+    take (length (map f l)) (column nought N (map f l)) ≡⟨ take-column nought N (map f l) ⟩
+    map f l ≡⟨ sym (append-nil (map f l)) ⟩
+    map f l ++ replicate 0 nought ≡⟨ ap (λ (k : ℕ). map f l ++ replicate k nought) (sym none-left) ⟩
+    column nought (length l) (map f l) ∎
+
+used-held : (lent : Lent) (n k : ℕ) (M : Over) → let s = diagram n (M .entries) .store in
+    used (outcome lent n (done k M)) ≡ held (length (s .nodes)) (length (s .values)) s
+unfolding used held finished
+used-held lent n k M =
+    let s = diagram n (M .entries) .store in
+    λ i. record {
+      level = used-column 0 (lent .nodes) (λ (m : Node). m .level) (s .nodes) i;
+      low = used-column 0 (lent .nodes) (λ (m : Node). code (m .low)) (s .nodes) i;
+      high = used-column 0 (lent .nodes) (λ (m : Node). code (m .high)) (s .nodes) i;
+      a = used-column (pos 0) (lent .values) (λ (x : Entry). x .a) (s .values) i;
+      b = used-column (pos 0) (lent .values) (λ (x : Entry). x .b) (s .values) i;
+      c = used-column (pos 0) (lent .values) (λ (x : Entry). x .c) (s .values) i;
+      d = used-column (pos 0) (lent .values) (λ (x : Entry). x .d) (s .values) i;
+    }
+
+-- ---- what a run leaves that is not refused
+
+abbrev pub Answered : Outcome → Type 0
+Answered o = (r : Refusal) → o .report .verdict ≡ Refused r → ⊥
+
+answered-unstopped : (lent : Lent) (n : ℕ) (e : Ended) → Answered (outcome lent n e) → Unstopped e
+unfolding refused
+answered-unstopped lent n e answered r is = answered r (ap (λ (x : Ended). outcome lent n x .report .verdict) is)
+
+-- its outcome is the miter's
+judged-miter : (lent : Lent) (n : ℕ) (s : List ℕ) (us vs : List Gate) (first second : Columns) → fits (length us) (length vs) s ≡ true
+    → Answered (judged lent n s us vs first second) → judged lent n s us vs first second ≡ outcome lent n (done (length us + length vs) (miter n us vs))
+unfolding judged
+judged-miter lent n s us vs first second fit answered =
+    let ss = steps s us vs in
+    outcome lent n (ended lent n ss)
+    ≡⟨ ap (outcome lent n) (unstopped-done lent n ss (ended-ends lent n ss) (answered-unstopped lent n (ended lent n ss) answered)) ⟩
+    outcome lent n (done (length ss) (run n ss start)) ≡⟨ ap (outcome lent n) (ap₂ done (steps-length s us vs fit) (schedule-miter n s us vs fit)) ⟩
+    outcome lent n (done (length us + length vs) (miter n us vs)) ∎
+
+-- ---- two runs
+
+-- two outcomes agree in every field of the report and in the used part of the first store, which is the diagram D: its nodes
+-- and values are as many as the report says and stand in their slots, and its root is the last node; the second stores are all 0
+pub record Agree (lent lent′ : Lent) (D : Diagram Entry) (o p : Outcome) : Type 0 where
+  pub reports : o .report ≡ p .report
+  pub used-parts : used o ≡ used p
+  pub used-is : used o ≡ held (length (D .store .nodes)) (length (D .store .values)) (D .store)
+  pub nodes-are : o .report .nodes ≡ length (D .store .nodes)
+  pub values-are : o .report .values ≡ length (D .store .values)
+  pub root-is : (i : ℕ) × (D .root ≡ node i) × (suc i ≡ length (D .store .nodes))
+  pub second-is : o .second ≡ cleared (lent .nodes) (lent .values)
+  pub second-is′ : p .second ≡ cleared (lent′ .nodes) (lent′ .values)
+
+-- over all lists whose gates fit, all schedules that fit, all widths and store sizes, and all earlier contents
+pub two-runs : (n : ℕ) (us vs : List Gate) → All-fit (suc n) us → All-fit (suc n) vs
+    → (D : Diagram Entry) → ReducedOf 𝟘 (levels (suc n)) (entries (miter (suc n) us vs .entries)) D
+    → (lent lent′ : Lent) (s s′ : List ℕ) → fits (length us) (length vs) s ≡ true → fits (length us) (length vs) s′ ≡ true
+    → (first second first′ second′ : Columns)
+    → let o = judged lent (suc n) s us vs first second in let p = judged lent′ (suc n) s′ us vs first′ second′ in
+    Answered o → Answered p → Agree lent lent′ D o p
+unfolding finished
+two-runs n us vs fit-u fit-v D reduced lent lent′ s s′ fit fit′ first second first′ second′ answered answered′ =
+    let M = miter (suc n) us vs in
+    let is-D : diagram (suc n) (M .entries) ≡ D = sym (diagram-unique (suc n) (M .entries) D reduced) in
+    let is = judged-miter lent (suc n) s us vs first second fit answered in
+    let is′ = judged-miter lent′ (suc n) s′ us vs first′ second′ fit′ answered′ in
+    let used-held₁ = ap used is ∙ used-held lent (suc n) (length us + length vs) M in
+    let used-held₂ = ap used is′ ∙ used-held lent′ (suc n) (length us + length vs) M in
+    record {
+      reports = ap (λ (x : Outcome). x .report) is ∙ sym (ap (λ (x : Outcome). x .report) is′);
+      used-parts = used-held₁ ∙ sym used-held₂;
+      used-is = used-held₁ ∙ ap (λ (x : Diagram Entry). held (length (x .store .nodes)) (length (x .store .values)) (x .store)) is-D;
+      nodes-are = ap (λ (x : Outcome). x .report .nodes) is ∙ ap (λ (x : Diagram Entry). length (x .store .nodes)) is-D;
+      values-are = ap (λ (x : Outcome). x .report .values) is ∙ ap (λ (x : Diagram Entry). length (x .store .values)) is-D;
+      root-is = subst (λ (x : Diagram Entry). (i : ℕ) × (x .root ≡ node i) × (suc i ≡ length (x .store .nodes))) is-D (miter-root n us vs fit-u fit-v);
+      second-is = ap (λ (x : Outcome). x .second) is;
+      second-is′ = ap (λ (x : Outcome). x .second) is′;
+    }
