@@ -38,7 +38,7 @@ returns-2 c =
     let v = c .before .before .before .before in
     rw (
       number-read (number _ _) (v .before .before .read-number .ensures) (v .value .given .1),
-      decided-unknown _ (c .before .before .decide .ensures) (c .enum-told .given .1),
+      decided-unknown _ (c .before .before .decide .ensures .is) (c .enum-told .given .1),
     )
 
 returns-3 : tie.Need-returns-3
@@ -47,7 +47,7 @@ returns-3 c =
     let d = c .before .before .before .before in
     let v = d .before .before in
     rw (number-read (number _ _) (v .before .before .read-number .ensures) (v .value .given .1))
-    (decided-known _ (d .decide .ensures) _ _ _ _ (c .before .before .rule .given .1) (c .read-operands .ensures))
+    (decided-known _ (d .decide .ensures .is) _ _ _ _ (c .before .before .rule .given .1) (c .read-operands .ensures))
 
 pub read-gate-spec : {M : Type 1} → statement M
 read-gate-spec =
