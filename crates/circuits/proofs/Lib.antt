@@ -1,0 +1,10 @@
+pub mod Answers
+pub mod Numbers
+pub mod Codes
+pub mod Readings
+pub mod Lists
+pub mod Forms
+pub mod Checks
+pub mod Remaining
+pub mod Within
+pub mod Examples

@@ -1,0 +1,5 @@
+pub mod Refusals
+pub mod Reading
+pub mod Codes
+pub mod Answers
+pub mod Within

@@ -1,0 +1,49 @@
+-- An accepted list is within the limits.
+-- Assumes nothing.
+use mathlib.Core.Path.{_≡_, subst}
+use mathlib.Core.List.{List, [], _∷_}
+use Prim.Native.Nat.{ℕ}
+use lib.ListN.{length}
+use Rattle.gates.specs.Gate.{Gate, Meant, one, two, unknown, meant, Fits}
+use Rattle.circuits.specs.declared.Limits.{Limits}
+use Rattle.circuits.specs.Refusals.{bad-qubit-count, bad-gate-count}
+use Rattle.circuits.specs.Reading.{read, number, qubit, target-qubit, operands, gate, gates, Circuit, decoded}
+use Rattle.circuits.specs.Within.{All-fit, Within}
+use Rattle.circuits.proofs.Readings.{refused-read, read-value, parts, gates-step}
+use Rattle.circuits.proofs.Checks.{qubit-checked, target-checked, count-checked}
+use Rattle.circuits.proofs.Remaining.{decoded-accepted}
+
+-- ---- gates that were read fit
+
+module _ (n : ℕ) (s : List ℕ) where
+  operands-fit : (start at : ℕ) (m : Meant) {g : Gate} {next : ℕ} → operands n start m s at ≡ read g next → Fits n g
+  operands-fit start at (one k) e =
+      let q = parts (qubit n s at) e in
+      subst (Fits n) (read-value (q .second)) (qubit-checked s at n (q .first) .1)
+  operands-fit start at (two k) e =
+      let p = parts (qubit n s at) e in
+      let q = parts (target-qubit n (p .value) s (p .next)) (p .second) in
+      let t = target-checked s (p .next) n (p .value) (q .first) in
+      subst (Fits n) (read-value (q .second)) (qubit-checked s at n (p .first) .1, t .1, t .2)
+  operands-fit start at unknown e = absurd (refused-read e)
+
+  gate-fits : (at : ℕ) {g : Gate} {next : ℕ} → gate n s at ≡ read g next → Fits n g
+  unfolding gate
+  gate-fits at e =
+      let c = parts (number s at) e in
+      operands-fit at (c .next) (meant (c .value)) (c .second)
+
+  gates-fit : (at : ℕ) (gs : List Gate) {next : ℕ} → gates n (length gs) s at ≡ read gs next → All-fit n gs
+  gates-fit at [] e = tt
+  gates-fit at (g ∷ gs) e =
+      let c = gates-step n (length gs) s at e in
+      (gate-fits at (c .gate-here), gates-fit (c .next) gs (c .others))
+
+-- ---- lists
+
+pub decoded-within : (limits : Limits) (s : List ℕ) {c : Circuit} {next : ℕ} → decoded limits s ≡ read c next → Within limits (c .qubits) (c .gates)
+decoded-within limits s {c} e =
+    let a = decoded-accepted limits s e in
+    let q = count-checked s 0 1 (limits .qubits) bad-qubit-count (a .qubit-count) in
+    let m = count-checked s (a .middle) 0 (limits .gates) bad-gate-count (a .gate-count) in
+    record { some-qubit = q .1; few-qubits = q .2; few-gates = m .2; all-fit = gates-fit (c .qubits) s (c .first) (c .gates) (a .all-gates) }

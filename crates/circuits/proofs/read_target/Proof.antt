@@ -1,0 +1,38 @@
+-- `circuits::read_target` meets its contract: the qubit that was read, and the test on it, are the definition's.
+-- Assumes nothing.
+use borrow.Author.Needs.{needs}
+use borrow.Author.Tests.{eq-eqb, ne-eqb}
+use Rattle.circuits.specs.Reading.{qubit, target-qubit}
+use Rattle.circuits.proofs.Answers.{number-read, number-refused}
+use Rattle.circuits.proofs.read_target.Statement.{statement}
+use Rattle.circuits.proofs.read_target.Tie as tie
+
+read-qubit-requires : tie.Need-read-qubit-requires
+read-qubit-requires c κs = search needs
+
+enum-known-why : tie.Need-enum-known-why
+enum-known-why c = search needs
+
+enum-known-value : tie.Need-enum-known-value
+enum-known-value c = search needs
+
+returns : tie.Need-returns
+unfolding target-qubit
+returns c = rw (number-refused (qubit _ _ _) (c .before .before .before .read-qubit .ensures) (c .before .why .given .1))
+
+returns-2 : tie.Need-returns-2
+unfolding target-qubit
+returns-2 c =
+    let v = c .before .before in
+    rw (number-read (qubit _ _ _) (v .before .before .read-qubit .ensures) (v .value .given .1), eq-eqb _ _ (c .if1 .taken))
+
+returns-3 : tie.Need-returns-3
+unfolding target-qubit
+returns-3 c =
+    let v = c .before .before in
+    rw (number-read (qubit _ _ _) (v .before .before .read-qubit .ensures) (v .value .given .1), ne-eqb _ _ (c .if1 .left))
+
+pub read-target-spec : {M : Type 1} → statement M
+read-target-spec =
+    tie.close
+    (tie.spec read-qubit-requires enum-known-why enum-known-value returns returns-2 returns-3)
