@@ -4,11 +4,11 @@ use mathlib.Core.Path.{_≡_, subst}
 use mathlib.Core.List.{List, [], _∷_}
 use Prim.Native.Nat.{ℕ}
 use lib.ListN.{length}
-use Rattle.gates.specs.Gate.{Gate, Meant, one, two, unknown, meant, Fits}
+use Rattle.gates.specs.Gate.{Gate, Meant, one, two, unknown, meant, Fits, All-fit}
 use Rattle.circuits.specs.declared.Limits.{Limits}
 use Rattle.circuits.specs.Refusals.{bad-qubit-count, bad-gate-count}
 use Rattle.circuits.specs.Reading.{read, number, qubit, target-qubit, operands, gate, gates, Circuit, decoded}
-use Rattle.circuits.specs.Within.{All-fit, Within}
+use Rattle.circuits.specs.Within.{Within}
 use Rattle.circuits.proofs.Readings.{refused-read, read-value, parts, gates-step}
 use Rattle.circuits.proofs.Checks.{qubit-checked, target-checked, count-checked}
 use Rattle.circuits.proofs.Remaining.{decoded-accepted}

@@ -1,13 +1,9 @@
 -- The gates that a list may have. Definitions only.
-use mathlib.Core.List.{List, [], _∷_}
+use mathlib.Core.List.{List}
 use Prim.Native.Nat.{ℕ, _≤_}
 use lib.ListN.{length}
-use Rattle.gates.specs.Gate.{Gate, Fits}
+use Rattle.gates.specs.Gate.{Gate, All-fit}
 use Rattle.circuits.specs.declared.Limits.{Limits}
-
-abbrev pub All-fit : ℕ → List Gate → Type 0
-All-fit n [] = Unit {0}
-All-fit n (g ∷ gs) = Fits n g × All-fit n gs
 
 -- none of refusals 5 to 9: the "qubit count" is "1 to 16", the "gate count" not "over 4,096", each qubit "below the count", and
 -- no "control equals target"

@@ -5,9 +5,9 @@ use Prim.Native.Nat.{ℕ, _<_}
 use native.Mathlib.Decide.{decLt}
 use native.Mathlib.Omega.{arith}
 use lib.ListN.{length}
-use Rattle.gates.specs.Gate.{Gate, on, pair, Fits}
+use Rattle.gates.specs.Gate.{Gate, on, pair, Fits, All-fit}
 use Rattle.circuits.specs.declared.Limits.{Limits}
-use Rattle.circuits.specs.Within.{All-fit, Within}
+use Rattle.circuits.specs.Within.{Within}
 use Rattle.circuits.specs.Codes.{gate-code}
 use Rattle.encodings.specs.Encoding.{number-bytes, operand-bytes, gate-bytes, gates-bytes, list-bytes, Bytes}
 use Rattle.encodings.proofs.Numbers.{one-byte, two-bytes, three-bytes}

@@ -7,11 +7,10 @@ use native.Mathlib.Nat.{add-zero}
 use native.Mathlib.Omega.{arith}
 use borrow.Author.Tests.{lt-ltb, ne-eqb}
 use lib.ListN.{length, drop}
-use Rattle.gates.specs.Gate.{X, Y, Z, H, S, S†, T, T†, CNOT, CZ, Gate, on, pair, Meant, one, two, unknown, meant, Fits}
+use Rattle.gates.specs.Gate.{X, Y, Z, H, S, S†, T, T†, CNOT, CZ, Gate, on, pair, Meant, one, two, unknown, meant, Fits, All-fit}
 use Rattle.circuits.specs.Reading.{read, number, qubit, target-qubit, operands, gate, gates}
 use Rattle.circuits.specs.Codes.{kind-code, pair-code, gate-code}
 use Rattle.encodings.specs.Encoding.{number-bytes, operand-bytes, gate-bytes, gates-bytes, Bytes}
-use Rattle.circuits.specs.Within.{All-fit}
 use Rattle.circuits.proofs.Readings.{read-value, read-next, refused-read, parts, gates-step}
 use Rattle.circuits.proofs.Checks.{qubit-checked, target-checked}
 use Rattle.circuits.proofs.Codes.{kind-meant, pair-meant, meant-one, meant-two}

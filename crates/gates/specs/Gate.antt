@@ -100,6 +100,10 @@ abbrev pub Fits : ℕ → Gate → Type 0
 Fits n (on k q) = q < n
 Fits n (pair k p q) = (p < n) × (q < n) × (p ≡ q → ⊥)
 
+abbrev pub All-fit : ℕ → List Gate → Type 0
+All-fit n [] = Unit {0}
+All-fit n (g ∷ gs) = Fits n g × All-fit n gs
+
 -- ---- the inverse and the exponent
 
 -- "X, Y, Z, H, CNOT and CZ are their own inverses; 4 and 5, and 6 and 7, undo each other."

@@ -16,7 +16,7 @@ use Rattle.algebra.specs.declared.Entry.{Entry}
 use Rattle.algebra.specs.Entry.{𝟘}
 use Rattle.algebra.specs.Matrix.{Bits, Matrix, everywhere}
 use Rattle.algebra.specs.Width.{entryInWidth}
-use Rattle.gates.specs.Gate.{Gate}
+use Rattle.gates.specs.Gate.{Gate, All-fit}
 use Rattle.schedules.specs.Schedule.{count, only-steps, fits}
 use Rattle.diagrams.specs.Diagram.{node, code, Node, Diagram, ReducedOf, levels, place, rows, columns, entries, diagram}
 use Rattle.diagrams.specs.Columns.{Columns, column, held, cleared}
@@ -27,7 +27,7 @@ use Rattle.diagrams.proofs.Diagrams.{diagram-unique}
 use Rattle.miters.specs.declared.Refusal.{Refusal}
 use Rattle.miters.specs.declared.Refusal.the-variants.{Step as at-step}
 use Rattle.miters.specs.declared.Verdict.the-variants.{Refused}
-use Rattle.miters.specs.Miter.{All-fit, Over, start, Step, stepped, run, steps, miter}
+use Rattle.miters.specs.Miter.{Over, start, Step, stepped, run, steps, miter}
 use Rattle.miters.specs.Report.{finished, refused}
 use Rattle.miters.specs.Run.{Lent, in-width, has-room, Ended, done, stopped, follow, ended, Outcome, outcome, judged, used}
 use Rattle.miters.proofs.Schedules.{schedule-miter}

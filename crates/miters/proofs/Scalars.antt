@@ -16,9 +16,9 @@ use Rattle.algebra.proofs.Entries.{entries, ⊗-assoc, ⊗-comm, ⊗-one, one-n
 use Rattle.algebra.proofs.Sums.{same-refl, same-sound, total-ext}
 use Rattle.algebra.proofs.Matrices.{scaled, product-assoc, scaled-product, product-scaled, scaled-scaled, product-absorb}
 use Rattle.algebra.proofs.Matrices.{Alike, _≈⟨_⟩_, _■, alike-sym, alike-of, product-alike, scaled-alike, identity-product, product-identity}
-use Rattle.gates.specs.Gate.{Gate, matrix, inverse, halves}
+use Rattle.gates.specs.Gate.{Gate, matrix, inverse, halves, All-fit}
 use Rattle.gates.proofs.Inverses.{gate-inverse, inverse-gate}
-use Rattle.miters.specs.Miter.{All-fit, list-matrix, exponent, Over, start, left, right, stepped, run, in-turn, miter, corner, Turns, Equal, Scalar}
+use Rattle.miters.specs.Miter.{list-matrix, exponent, Over, start, left, right, stepped, run, in-turn, miter, corner, Turns, Equal, Scalar}
 
 -- ---- inverses up to a power of √2
 

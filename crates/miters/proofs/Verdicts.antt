@@ -15,14 +15,14 @@ use Rattle.algebra.specs.declared.Entry.{Entry}
 use Rattle.algebra.specs.Entry.{𝟘}
 use Rattle.algebra.specs.Matrix.{Bits, Matrix, same}
 use Rattle.algebra.proofs.Sums.{same-refl, same-sound}
-use Rattle.gates.specs.Gate.{Gate}
+use Rattle.gates.specs.Gate.{Gate, All-fit}
 use Rattle.diagrams.specs.Diagram.{levels, place, rows, columns, entries, same-entry}
 use Rattle.diagrams.proofs.Tests.{entry-decides}
 use Rattle.diagrams.proofs.Places.{length-place, length-halves, place-halves}
 use Rattle.miters.specs.declared.Difference.{Difference}
 use Rattle.miters.specs.declared.Verdict.{Verdict}
 use Rattle.miters.specs.declared.Verdict.the-variants.{Equal as equal-with, Different}
-use Rattle.miters.specs.Miter.{All-fit, corner, miter, Turns, Equal, Scalar}
+use Rattle.miters.specs.Miter.{corner, miter, Turns, Equal, Scalar}
 use Rattle.miters.proofs.Scalars.{scalar-turns, equal-iff-scalar}
 use Rattle.miters.proofs.Schedules.{miter-power}
 use Rattle.miters.specs.Report.{number, forbids, lower, lowest, difference, verdict-by, verdict}

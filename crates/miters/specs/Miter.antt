@@ -8,14 +8,9 @@ use lib.ListN.{length, replicate}
 use Rattle.algebra.specs.declared.Entry.{Entry}
 use Rattle.algebra.specs.Entry.{𝟘, _⊗_, √2^}
 use Rattle.algebra.specs.Matrix.{Bits, Matrix, product, same, identity}
-use Rattle.gates.specs.Gate.{Gate, matrix, inverse, halves, Fits}
+use Rattle.gates.specs.Gate.{Gate, matrix, inverse, halves}
 
 -- ---- a list's matrix
-
--- every gate's qubits are below n, and are two where it names two
-abbrev pub All-fit : ℕ → List Gate → Type 0
-All-fit n [] = Unit {0}
-All-fit n (g ∷ gs) = Fits n g × All-fit n gs
 
 -- "A list's matrix has its first gate rightmost."
 unfoldable pub list-matrix : ℕ → List Gate → Matrix
