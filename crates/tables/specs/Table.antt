@@ -66,14 +66,18 @@ noted plan memo σ answer = noted-at plan memo (slot-of plan σ) σ answer
 
 -- ---- what fits
 
--- the table lies in the memory lent for it; the phases are powers of w8
-pub record TableFits (plan : Plan) (memo : List ℕ) : Type 0 where
+-- the sizes that a plan has; its phases are powers of w8
+pub record TableSizes (plan : Plan) : Type 0 where
   pub some-slots : 1 ≤ plan .slots
   pub slots-limit : plan .slots ≤ 65536
   pub span-limit : plan .span ≤ 131074
-  pub room : table-end plan ≤ length memo
   pub phase-zero : plan .phases .zero < 8
   pub phase-one : plan .phases .one < 8
+
+-- the table lies in the memory lent for it
+pub record TableFits (plan : Plan) (memo : List ℕ) : Type 0 where
+  pub sizes : TableSizes plan
+  pub room : table-end plan ≤ length memo
 
 -- the references of a state are the source's; a mode that makes use of one reference has it twice
 pub record InTable (plan : Plan) (σ : State) : Type 0 where

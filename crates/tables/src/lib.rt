@@ -7,7 +7,7 @@ ghost use mathlib.Core.Path.{_≡_};
 ghost use Prim.Native.Nat.{_≤_};
 ghost use lib.ListN.{length};
 ghost use Rattle.transitions.specs.Plan.{plan-of};
-ghost use Rattle.tables.specs.Table.{state, slot-of, recalled, noted, AtSlot, table-size, cleared};
+ghost use Rattle.tables.specs.Table.{state, slot-of, recalled, noted, TableSizes, AtSlot, table-size, cleared};
 
 // Nothing is known.
 pub const UNSETTLED: u32 = 4294967293;
@@ -20,6 +20,7 @@ const WAITING: u32 = 16;
 
 // Where the table has a state: a number of one of three regions, or an entry of four.
 pub fn slot(plan: &[u32; 32], x: u32, y: u32, mode: u32) -> usize
+    requires { ⌜ TableSizes (plan-of (now plan)) ⌝ }
     ensures { λ r. ⌜ r ≡ slot-of (plan-of (now (plan .entry))) (state x y mode) ⌝ }
 {
     let span = plan[SPAN] as usize;
