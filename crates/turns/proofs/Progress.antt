@@ -3,18 +3,19 @@ use mathlib.Core.Path.{_≡_, refl, sym, ap, ap₂, _∙_, subst, subst⁻¹, su
 use mathlib.Core.Logic.{_⊎_, inl, inr}
 use mathlib.Core.Bool.{Bool, true, false, cond, _&&_}
 use mathlib.Core.List.{List, _++_}
-use Prim.Native.Nat.{ℕ, _+_, _≤_, _<_}
+use Prim.Native.Nat.{ℕ, _+_, _-_, _≤_, _<_}
 use native.Mathlib.Omega.{arith}
 use borrow.Author.Tests.{leb-true, le-leb, leb-false, lt-leb}
 use lib.Dec.{leb}
 use lib.ListN.{length, length-append}
 use Rattle.algebra.specs.declared.Entry.{Entry}
-use Rattle.diagrams.specs.Diagram.{Ref, code, Node, branch, Store, Diagram, rooted, make-node}
-use Rattle.diagrams.proofs.Again.{Extends, extends-trans, make-node-extends}
-use Rattle.diagrams.proofs.Tests.{both-true, true-both}
+use Rattle.diagrams.specs.Diagram.{Ref, code, ref-of, branch, Store, Diagram, rooted, make-node}
+use Rattle.diagrams.proofs.Again.{Extends, extends-trans, make-node-extends, reduce-extends, reduce-again}
+use Rattle.diagrams.proofs.References.{ref-of-code}
+use Rattle.diagrams.proofs.Tests.{both-true, true-both, entry-decides}
 use Rattle.transitions.specs.declared.State.{State}
 use Rattle.transitions.specs.Plan.{Plan}
-use Rattle.transitions.specs.State.{ref-of, made, inside}
+use Rattle.transitions.specs.State.{meaning, top, made, inside}
 use Rattle.turns.specs.Progress.{FULL, OUT, Progress, building, full, out, roomy, node-over, Walks, built, filled, left, still-full, left-full, gone, Finish, low-out, high-out, no-more, joined, overflows}
 
 -- ---- room
@@ -38,11 +39,22 @@ not-roomy N L {s} {t} e h = by (roomy N L t) refl
     by true p = sym (roomy-within N L e p) ∙ h
     by false p = refl
 
-made-extends : (plan : Plan) (s : Store Entry) (σ : State) (t : Store Entry) → Extends t (made plan s σ t .store)
-made-extends plan s σ t = ?
+-- ---- what is made is walked
 
-ref-of-code : (r : Ref) → ref-of (code r) ≡ r
-ref-of-code r = ?
+pub made-walks : {N L : ℕ} {plan : Plan} {s t : Store Entry} {σ : State} {D : Diagram Entry} → D ≡ made plan s σ t → inside plan s σ ≡ true
+    → roomy N L (D .store) ≡ true → code (D .root) < OUT → Walks N L plan s σ (building t) (building (D .store)) (code (D .root))
+made-walks {N} {L} {plan} {s} {t} {σ} e a c x =
+    subst⁻¹ (λ (E : Diagram Entry). Walks N L plan s σ (building t) (building (E .store)) (code (E .root))) e
+    (built a (ap (λ (E : Diagram Entry). roomy N L (E .store)) (sym e) ∙ c) (subst (λ (E : Diagram Entry). code (E .root) < OUT) e x))
+
+pub made-extends : (plan : Plan) (s : Store Entry) (σ : State) (t : Store Entry) → Extends t (made plan s σ t .store)
+unfolding made
+made-extends plan s σ t = let level = top plan s σ in reduce-extends entry-decides (plan .levels - level) level (meaning plan s level σ) t
+
+pub made-again : (plan : Plan) (s : Store Entry) (σ : State) (t u : Store Entry) → Extends (made plan s σ t .store) u
+    → made plan s σ u ≡ rooted u (made plan s σ t .root)
+unfolding made
+made-again plan s σ t u e = let level = top plan s σ in reduce-again entry-decides (plan .levels - level) level (meaning plan s level σ) t u e
 
 -- ---- a turn
 
@@ -78,11 +90,6 @@ module _ (N L : ℕ) (plan : Plan) (s : Store Entry) (σ low high : State) (leve
         let high-is : ref-of h ≡ made plan s high lo-store .root = ap ref-of eh ∙ ref-of-code (made plan s high lo-store .root) in
         ap₂ (λ (x y : Ref). make-node (branch level x y) (made plan s high lo-store .store)) low-is high-is ∙ sym (made-is t)
 
-  made-whole : (t : Store Entry) {D : Diagram Entry} → D ≡ made plan s σ t → inside plan s σ ≡ true → roomy N L (D .store) ≡ true → code (D .root) < OUT
-      → Walks N L plan s σ (building t) (building (D .store)) (code (D .root))
-  made-whole t {D} e a c x = subst⁻¹ (λ (E : Diagram Entry). Walks N L plan s σ (building t) (building (E .store)) (code (E .root))) e
-      (built a (ap (λ (E : Diagram Entry). roomy N L (E .store)) (sym e) ∙ c) (subst (λ (E : Diagram Entry). code (E .root) < OUT) e x))
-
   -- ---- nothing of a failure is lost, whatever the turn's end makes of it
 
   full-is-not-out : FULL ≡ OUT → ⊥
@@ -107,7 +114,7 @@ module _ (N L : ℕ) (plan : Plan) (s : Store Entry) (σ low high : State) (leve
       → Finish N L level l h p₂ p₃ r → Walks N L plan s σ p p₃ r
   turn-walks alive (built {t = t} a c x) (built b d y) (low-out e) = absurd (omega arith)
   turn-walks alive (built {t = t} a c x) (built b d y) (high-out e) = absurd (omega arith)
-  turn-walks alive (built {t = t} a c x) (built b d y) (joined f g e z) = made-whole t (node-is t refl refl) (both-inside a b) e z
+  turn-walks alive (built {t = t} a c x) (built b d y) (joined f g e z) = made-walks (node-is t refl refl) (both-inside a b) e z
   turn-walks alive (built {t = t} a c x) (built b d y) (overflows f g e) =
       filled (both-inside a b) (ap (λ (D : Diagram Entry). roomy N L (D .store)) (sym (node-is t refl refl)) ∙ e) full-is-not-out
   turn-walks alive (built {t = t} a c x) (filled b d y) fin =

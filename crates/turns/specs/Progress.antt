@@ -5,10 +5,10 @@ use Prim.Native.Nat.{ℕ, _<_}
 use lib.Dec.{leb}
 use lib.ListN.{length}
 use Rattle.algebra.specs.declared.Entry.{Entry}
-use Rattle.diagrams.specs.Diagram.{branch, code, Store, Diagram, make-node}
+use Rattle.diagrams.specs.Diagram.{branch, code, ref-of, Store, Diagram, make-node}
 use Rattle.transitions.specs.declared.State.{State}
 use Rattle.transitions.specs.Plan.{Plan}
-use Rattle.transitions.specs.State.{ref-of, made, inside}
+use Rattle.transitions.specs.State.{made, inside}
 
 -- what the walkers answer where there is no reference: the product needs more room; a number lies outside the width
 abbrev pub FULL : ℕ
