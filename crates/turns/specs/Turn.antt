@@ -1,0 +1,71 @@
+-- What a turn of the walk asks for and leaves: at the state's slot, before and after its calls. Definitions only.
+use mathlib.Core.Path.{_≡_}
+use mathlib.Core.Bool.{true, cond}
+use mathlib.Core.List.{List}
+use Prim.Native.Nat.{ℕ, suc, _+_, _*_, _<_, _≤_}
+use lib.Dec.{eqb}
+use lib.IntN.{ℤ}
+use lib.ListN.{length, getD, set}
+use Rattle.algebra.specs.declared.Entry.{Entry}
+use Rattle.algebra.specs.declared.Bounded.{Bounded}
+use Rattle.algebra.specs.declared.Bounded.the-variants.{Within, Outside}
+use Rattle.algebra.specs.Width.{bounded}
+use Rattle.diagrams.specs.Diagram.{branch, ref-of, Store}
+use Rattle.diagrams.specs.UniqueTable.{nodes-in, NodeMade, values-in, ValueMade}
+use Rattle.transitions.specs.declared.State.{State}
+use Rattle.transitions.specs.Plan.{Plan, plan-of}
+use Rattle.transitions.specs.Source.{SourceHeld, Reading-leaf}
+use Rattle.transitions.specs.State.{top}
+use Rattle.transitions.specs.Next.{leaf-entry}
+use Rattle.transitions.specs.Valid.{ValidPlan, ValidState}
+use Rattle.tables.specs.Table.{slot-of, noted}
+use Rattle.turns.specs.Progress.{FULL, OUT, out, Walks}
+use Rattle.turns.specs.Work.{source-in, Work, node-room, value-room, progress-of, Working, SameSizes}
+
+-- ---- the tally
+
+-- the count in slot k goes up where the answer is the new one; a missing slot ends the building
+abbrev pub tallied : ℕ → ℕ → ℕ → List ℕ → List ℕ
+tallied k new r tally = cond (eqb r FULL) (set tally 2 1) (cond (eqb r new) (set tally k (suc (getD tally k 0))) tally)
+
+-- ---- the node over two answers
+
+module _ (plan level low high index tally : List ℕ) (lv l h r : ℕ) (level′ low′ high′ index′ tally′ : List ℕ) where
+  pub record Joined : Type 0 where
+    pub past : (getD tally 2 0 ≡ 0 → ⊥) → (r ≡ FULL) × (tally′ ≡ tally) × (level′ ≡ level) × (low′ ≡ low) × (high′ ≡ high) × (index′ ≡ index)
+    pub node-made : getD tally 2 0 ≡ 0 → NodeMade level low high index r level′ low′ high′ index′
+        (length level) (plan-of plan .node-heads) (branch lv (ref-of l) (ref-of h)) (nodes-in (getD tally 0 0) level low high)
+    pub counted : getD tally 2 0 ≡ 0 → tally′ ≡ tallied 0 (2 * getD tally 0 0 + 1) r tally
+
+-- ---- the value of a state with no question left
+
+module _ (plan : List ℕ) (terminals : List ℤ) (index tally : List ℕ) (e : Entry) (r : ℕ) (terminals′ : List ℤ) (index′ tally′ : List ℕ) where
+  pub record Placed : Type 0 where
+    pub past : (getD tally 2 0 ≡ 0 → ⊥) → (r ≡ FULL) × (tally′ ≡ tally) × (terminals′ ≡ terminals) × (index′ ≡ index)
+    pub value-made : getD tally 2 0 ≡ 0 → ValueMade terminals index r terminals′ index′ (plan-of plan .value-heads) e (values-in (getD tally 1 0) terminals)
+    pub counted : getD tally 2 0 ≡ 0 → tally′ ≡ tallied 1 (2 * getD tally 1 0) r tally
+
+-- ---- a walk from a state
+
+-- what is asked before it
+pub record Ready (plan : List ℕ) (cols : List (List ℕ)) (vals : List (List ℤ)) (w : Work) (at : ℕ) (σ : State) : Type 0 where
+  pub valid-plan : ValidPlan (plan-of plan) (source-in plan cols vals)
+  pub valid-state : ValidState (plan-of plan) (source-in plan cols vals) σ
+  pub source : SourceHeld (source-in plan cols vals) cols vals
+  pub node-span : 2 * length (source-in plan cols vals .nodes) ≤ plan-of plan .span
+  pub value-span : 2 * length (source-in plan cols vals .values) ≤ plan-of plan .span
+  pub slot : at ≡ slot-of (plan-of plan) σ
+  pub work : Working (plan-of plan) (source-in plan cols vals) w
+
+-- the same, of a state that asks at a level, before anything has left the width
+pub record Asking (plan : List ℕ) (cols : List (List ℕ)) (vals : List (List ℤ)) (w : Work) (at lv : ℕ) (σ : State) : Type 0 where
+  pub ready : Ready plan cols vals w at σ
+  pub asks : lv ≡ top (plan-of plan) (source-in plan cols vals) σ
+  pub below : lv < plan-of plan .levels
+  pub alive : progress-of w ≡ out → ⊥
+
+-- what it leaves
+pub record Walked (plan : List ℕ) (cols : List (List ℕ)) (vals : List (List ℤ)) (w : Work) (σ : State) (r : ℕ) (w′ : Work) : Type 0 where
+  pub sizes : SameSizes w w′
+  pub work : Working (plan-of plan) (source-in plan cols vals) w′
+  pub walks : Walks (node-room w) (value-room w) (plan-of plan) (source-in plan cols vals) σ (progress-of w) (progress-of w′) r
