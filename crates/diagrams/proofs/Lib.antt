@@ -6,3 +6,7 @@ pub mod Exists
 pub mod Places
 pub mod Diagrams
 pub mod Columns
+pub mod References
+pub mod Chains
+pub mod Hashes
+pub mod NodeTables
