@@ -12,7 +12,7 @@ use native.Mathlib.Omega.{arith}
 use lib.Dec.{eqb, ltb}
 use lib.ListN.{length, getD, set, length-append, length-set, List·getD-append}
 use lib.Seq.{getD-at, getD-set-same, getD-set-other}
-use borrow.Author.Tests.{eqb-true, eqb-false, lt-ltb, le-ltb}
+use borrow.Author.Tests.{eqb-true, eqb-false, eq-eqb, ne-eqb, lt-ltb, le-ltb}
 use Rattle.diagrams.specs.Diagram.{slot, keep, Distinct}
 use Rattle.diagrams.specs.UniqueTable.{full, listed, last-with, hash-at, Indexed, found, Put}
 use Rattle.diagrams.proofs.Tests.{Decides, false-apart}
@@ -116,11 +116,14 @@ module _ {A : Type 0} {hash : A → ℕ} {blank : A} {N heads : ℕ} {l : List A
       → Searching hash blank l x (getD index i 0) × (getD index i 0 < suc i)
   search-steps i s other =
       let goes : getD index i 0 ≡ last-with f (hash x) i = indexed .next i (s .below) ∙ ap (λ (h : ℕ). last-with f h i) (last-hash f (hash x) i (s .linked)) in
-      rw goes (record {
-        below = omega (arith, last-bound f (hash x) i, s .below);
-        linked = last-again f (hash x) i;
-        passed = λ k from below e. by-order k from below e (decLt k i);
-      }, omega (arith, last-bound f (hash x) i))
+      rw goes (
+        record {
+          below = omega (arith, last-bound f (hash x) i, s .below);
+          linked = last-again f (hash x) i;
+          passed = λ k from below e. by-order k from below e (decLt k i);
+        },
+        omega (arith, last-bound f (hash x) i),
+      )
     where
       by-order : (k : ℕ) → last-with f (hash x) i ≤ k → k < length l → getD l k blank ≡ x → Dec (k < i) → ⊥
       by-order k from below e (yes less) = last-gap f (hash x) i k from less (ap hash e)
@@ -197,27 +200,46 @@ module _ {A : Type 0} {same : A → A → Bool} (𝓓 : Decides same) (blank x :
       by-kept (keeping.found j h g k) = there j (e ∙ rw (k .1, lt-ltb j (length l) h)) h k
       by-kept (keeping.fresh a k) = nowhere (e ∙ rw (k .1, le-ltb (length l) (length l) (omega arith))) a k
 
+  pub found-bound : (p : ℕ) → p ≡ found same x l → p ≤ length l
+  found-bound p e = by-search (searched p e)
+    where
+      by-search : Searched p → p ≤ length l
+      by-search (there i q h k) = omega arith
+      by-search (nowhere q a k) = omega arith
+
+  -- what is answered for the slot tells whether the list has grown
+  pub keep-grows : (answer : ℕ → ℕ) → ((i j : ℕ) → answer i ≡ answer j → i ≡ j)
+      → length (keep same x l) ≡ cond (eqb (answer (slot same x l)) (answer (length l))) (length l + 1) (length l)
+  keep-grows answer injective = by-kept (kept 𝓓 blank x l)
+    where
+      not-itself : (j : ℕ) → j < length l → j ≡ length l → ⊥
+      not-itself j h e = omega arith
+
+      by-kept : Kept same blank x l → length (keep same x l) ≡ cond (eqb (answer (slot same x l)) (answer (length l))) (length l + 1) (length l)
+      by-kept (keeping.found j h g k) = rw (k .0, k .1, ne-eqb (answer j) (answer (length l)) (λ e. not-itself j h (injective j (length l) e)))
+      by-kept (keeping.fresh a k) = rw (k .0, k .1, eq-eqb (answer (length l)) (answer (length l)) refl) (length-append l (x ∷ []))
+
   module _ (answer : ℕ → ℕ) (N : ℕ) (Held : List A → Type 0) (Unchanged : Type 0) (p : ℕ) (e : p ≡ found same x l) where
     -- it is there: nothing changes
-    pub put-there : length l ≤ N → (p ≡ 0 → ⊥) → Held l → p ≤ N × Put same answer N x l (answer (p - 1)) Held Unchanged
+    pub put-there : length l ≤ N → (p ≡ 0 → ⊥) → Held l → Put same answer N x l (answer (p - 1)) Held Unchanged
     put-there room some held = by-search (searched p e)
       where
-        by-search : Searched p → p ≤ N × Put same answer N x l (answer (p - 1)) Held Unchanged
-        by-search (there i q h k) =
-            (omega arith, record {
-              kept = λ _. (ap answer (omega (arith, k .1)), rw (k .0) held);
-              missing = λ less. absurd (omega (arith, ap length (k .0)));
-            })
+        by-search : Searched p → Put same answer N x l (answer (p - 1)) Held Unchanged
+        by-search (there i q h k) = record {
+          kept = λ _. (ap answer (omega (arith, k .1)), rw (k .0) held);
+          missing = λ less. absurd (omega (arith, ap length (k .0)));
+        }
         by-search (nowhere q a k) = absurd (some q)
 
     -- it is not: it takes the next slot
-    pub put-next : length l < N → p ≡ 0 → Held (l ++ (x ∷ [])) → Put same answer N x l (answer (length l)) Held Unchanged
-    put-next room none held = by-search (searched p e)
+    pub put-next : (used : ℕ) → used ≡ length l → used < N → p ≡ 0 → (Absent blank x l → Held (l ++ (x ∷ [])))
+        → Put same answer N x l (answer used) Held Unchanged
+    put-next used u room none held = by-search (searched p e)
       where
-        by-search : Searched p → Put same answer N x l (answer (length l)) Held Unchanged
+        by-search : Searched p → Put same answer N x l (answer used) Held Unchanged
         by-search (there i q h k) = absurd (omega arith)
         by-search (nowhere q a k) = record {
-          kept = λ _. (ap answer (sym (k .1)), rw (k .0) held);
+          kept = λ _. (ap answer (u ∙ sym (k .1)), rw (k .0) (held a));
           missing = λ less. absurd (omega (arith, ap length (k .0), length-append l (x ∷ [])));
         }
 
@@ -236,7 +258,7 @@ module _ {A : Type 0} {same : A → A → Bool} (𝓓 : Decides same) (blank x :
 
 module _ {A : Type 0} {hash : A → ℕ} {blank : A} {N heads : ℕ} {l : List A} {index : List ℕ} (indexed : Indexed hash blank N heads l index) (x : A) where
   -- the index with x linked as the first of its chain
-  abbrev pub linked : List ℕ
+  abbrev linked : List ℕ
   linked = set (set index (length l) (getD index (N + hash x) 0)) (N + hash x) (length l + 1)
 
   old : (k : ℕ) → k < length l → hash-at hash blank (l ++ (x ∷ [])) k ≡ hash-at hash blank l k
@@ -286,8 +308,9 @@ module _ {A : Type 0} {hash : A → ℕ} {blank : A} {N heads : ℕ} {l : List A
             ∙ sym (last-old (hash-at hash blank l i) i (omega arith))
             ∙ ap (λ (h : ℕ). last-with (hash-at hash blank (l ++ (x ∷ []))) h i) (sym (old i less))
 
-    pub indexed-snoc : Absent blank x l → Indexed hash blank N heads (l ++ (x ∷ [])) linked
-    indexed-snoc absent = record {
+    pub indexed-snoc : (used first : ℕ) → used ≡ length l → first ≡ getD index (N + hash x) 0 → Absent blank x l
+        → Indexed hash blank N heads (l ++ (x ∷ [])) (set (set index used first) (N + hash x) (used + 1))
+    indexed-snoc used first u f absent = rw (u, f) (record {
       limit = indexed .limit;
       some-head = indexed .some-head;
       long = omega (arith, indexed .long, length-linked);
@@ -295,4 +318,4 @@ module _ {A : Type 0} {hash : A → ℕ} {blank : A} {N heads : ℕ} {l : List A
       once = distinct-snoc blank x l (indexed .once) absent;
       head = λ h below. head-more h below ∙ ap (last-with (hash-at hash blank (l ++ (x ∷ []))) h) (sym (length-append l (x ∷ []) ∙ add-one (length l)));
       next = λ i below. next-more i (omega (arith, length-append l (x ∷ [])));
-    }
+    })

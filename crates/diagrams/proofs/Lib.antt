@@ -10,3 +10,4 @@ pub mod References
 pub mod Chains
 pub mod Hashes
 pub mod NodeTables
+pub mod Clearing

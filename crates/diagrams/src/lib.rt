@@ -3,9 +3,10 @@
 // Node i stands in slot i of three columns, terminal j in slots 4j to 4j + 3 of one. An index beside them has hash chains:
 // for a table of N slots, slot i has the next of element i, slot N + h the head of the chain of hash h.
 ghost use mathlib.Core.Path.{_≡_};
-ghost use Prim.Native.Nat.{_+_, _<_};
+ghost use Prim.Native.Nat.{_+_, _<_, _≤_};
 ghost use lib.ListN.{length, getD};
 ghost use Rattle.diagrams.specs.Diagram.{branch, ref-of, same-node};
+ghost use Rattle.diagrams.specs.Columns.{zeroed};
 ghost use Rattle.diagrams.specs.UniqueTable.{found, node-in, nodes-in, node-hash, NodesHeld, NodeMade};
 
 // No slot is left.
@@ -101,4 +102,16 @@ pub fn make_node(
     index[i] = first;
     index[head] = used + 1;
     2 * used + 1
+}
+
+// The slots of an index from `from` up to `to` become 0: with those of the heads, it is that of an empty table.
+pub fn clear_index(index: &mut [u32], from: usize, to: usize)
+    requires { ⌜ (from ≤ to) × (to ≤ length (now index)) ⌝ }
+    ensures { λ _. ⌜ now (index .exit) ≡ zeroed 0 from to (now (index .entry)) ⌝ }
+{
+    let mut i = from;
+    while i < to {
+        index[i] = 0;
+        i += 1;
+    }
 }
