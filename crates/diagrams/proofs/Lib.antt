@@ -6,3 +6,8 @@ pub mod Exists
 pub mod Places
 pub mod Diagrams
 pub mod Columns
+pub mod References
+pub mod Chains
+pub mod Hashes
+pub mod NodeTables
+pub mod Clearing

@@ -2,7 +2,7 @@
 use mathlib.Core.List.{List, _++_, map}
 use Prim.Native.Nat.{ℕ, _-_}
 use lib.IntN.{ℤ, pos}
-use lib.ListN.{length, replicate}
+use lib.ListN.{length, take, drop, replicate}
 use Rattle.algebra.specs.declared.Entry.{Entry}
 use Rattle.diagrams.specs.Diagram.{Node, code, Store}
 
@@ -20,6 +20,10 @@ pub record Columns : Type 0 where
 -- a column of a length, "with unused slots 0"
 abbrev pub column : {A : Type 0} → A → ℕ → List A → List A
 column nought N l = l ++ replicate (N - length l) nought
+
+-- a column with its slots from one on, up to another, 0
+unfoldable pub zeroed : {A : Type 0} → A → ℕ → ℕ → List A → List A
+zeroed nought from to l = take from l ++ (replicate (to - from) nought ++ drop to l)
 
 -- the columns of lengths N and L that hold a store
 unfoldable pub held : ℕ → ℕ → Store Entry → Columns

@@ -1,0 +1,87 @@
+-- Unique tables: what lent columns and an index of hash chains hold. Definitions only; their laws are in proofs/Chains.antt,
+-- proofs/NodeTables.antt and proofs/ValueTables.antt.
+use mathlib.Core.Path.{_≡_}
+use mathlib.Core.Bool.{Bool, cond}
+use mathlib.Core.List.{List, [], _∷_, _++_}
+use Prim.Native.Nat.{ℕ, zero, suc, _+_, _*_, _/_, _%_, _<_, _≤_}
+use lib.Dec.{eqb, ltb}
+use lib.ListN.{length, getD, drop}
+use Rattle.diagrams.specs.Diagram.{Node, branch, unused, code, ref-of, Distinct, slot, keep, same-node}
+
+-- what is answered where a slot is missing: no reference is as large
+abbrev pub full : ℕ
+full = 4294967295
+
+-- ---- what the first slots hold
+
+-- f 0, f 1, .., f (n − 1)
+unfoldable pub listed : {A : Type 0} → ℕ → (ℕ → A) → List A
+listed zero f = []
+listed (suc n) f = listed n f ++ (f n ∷ [])
+
+abbrev pub node-in : List ℕ → List ℕ → List ℕ → ℕ → Node
+node-in level low high i = branch (getD level i 0) (ref-of (getD low i 0)) (ref-of (getD high i 0))
+
+-- the nodes in the first slots of the columns
+abbrev pub nodes-in : ℕ → List ℕ → List ℕ → List ℕ → List Node
+nodes-in used level low high = listed used (node-in level low high)
+
+-- ---- chains
+
+-- one more than the last k below n with f k ≡ h, or 0
+unfoldable pub last-with : (ℕ → ℕ) → ℕ → ℕ → ℕ
+last-with f h zero = 0
+last-with f h (suc n) = cond (eqb (f n) h) (suc n) (last-with f h n)
+
+module _ {A : Type 0} (hash : A → ℕ) (blank : A) where
+  abbrev pub hash-at : List A → ℕ → ℕ
+  hash-at l i = hash (getD l i blank)
+
+  -- The index of a table of N slots: slot i has the next of element i's chain, slot N + h the head of the chain of hash h.
+  -- A chain goes from a later element to an earlier one of the same hash; it holds 1 + their numbers, and 0 ends it.
+  pub record Indexed (N heads : ℕ) (l : List A) (index : List ℕ) : Type 0 where
+    pub limit : N ≤ 65536
+    pub some-head : 0 < heads
+    pub long : N + heads ≤ length index
+    pub room : length l ≤ N
+    pub once : Distinct blank l
+    pub head : (h : ℕ) → h < heads → getD index (N + h) 0 ≡ last-with (hash-at l) h (length l)
+    pub next : (i : ℕ) → i < length l → getD index i 0 ≡ last-with (hash-at l) (hash-at l i) i
+
+-- 1 + the slot at which an element is found, or 0
+abbrev pub found : {A : Type 0} → (A → A → Bool) → A → List A → ℕ
+found same x l = cond (ltb (slot same x l) (length l)) (suc (slot same x l)) 0
+
+-- An element is found or appended: r is what is answered, `answer` the reference of a slot.
+pub record Put {A : Type 0} (same : A → A → Bool) (answer : ℕ → ℕ) (N : ℕ) (x : A) (l : List A) (r : ℕ) (Held : List A → Type 0) (Unchanged : Type 0) : Type 0 where
+  pub kept : length (keep same x l) ≤ N → (r ≡ answer (slot same x l)) × Held (keep same x l)
+  pub missing : N < length (keep same x l) → (r ≡ full) × Unchanged
+
+-- ---- nodes
+
+-- a number below `heads`, by which nodes are spread over the chains
+unfoldable pub node-hash : ℕ → Node → ℕ
+node-hash heads n =
+    (code (n .low) % 131072 * 679488061819 + code (n .high) % 131072 * 836218895663 + n .level % 1024 * 923031386221) / 1048576 % 65536 * heads / 65536
+
+-- the columns hold these nodes, and the index finds them
+pub record NodesHeld (N heads : ℕ) (ns : List Node) (level low high index : List ℕ) : Type 0 where
+  pub level-long : length level ≡ N
+  pub low-long : length low ≡ N
+  pub high-long : length high ≡ N
+  pub nodes : nodes-in (length ns) level low high ≡ ns
+  pub indexed : Indexed (node-hash heads) unused N heads ns index
+
+-- What `make_node` leaves: r is its answer, and the columns with ′ are those after it.
+module _ (level low high index : List ℕ) (r : ℕ) (level′ low′ high′ index′ : List ℕ) where
+  abbrev pub NodesUnchanged : Type 0
+  NodesUnchanged = (level′ ≡ level) × (low′ ≡ low) × (high′ ≡ high) × (index′ ≡ index)
+
+  -- the slots from k on are as they were
+  abbrev pub NodesPast : ℕ → Type 0
+  NodesPast k = (drop k level′ ≡ drop k level) × (drop k low′ ≡ drop k low) × (drop k high′ ≡ drop k high)
+
+  pub record NodeMade (N heads : ℕ) (n : Node) (ns : List Node) : Type 0 where
+    pub alike : n .low ≡ n .high → (r ≡ code (n .low)) × NodesUnchanged
+    pub apart : (n .low ≡ n .high → ⊥)
+        → Put same-node (λ i. 2 * i + 1) N n ns r (λ ns′. NodesHeld N heads ns′ level′ low′ high′ index′ × NodesPast (length ns′)) NodesUnchanged
