@@ -40,16 +40,16 @@ abbrev pub cofactor-by : Store Entry → ℕ → Bool → ℕ → Ref → ℕ
 cofactor-by s level b x (value j) = x
 cofactor-by s level b x (node i) = cond (eqb (node-at s i .level) level) (code (cond b (node-at s i .high) (node-at s i .low))) x
 
-abbrev pub cofactor : Store Entry → ℕ → Bool → ℕ → ℕ
+unfoldable pub cofactor : Store Entry → ℕ → Bool → ℕ → ℕ
 cofactor s level b x = cofactor-by s level b x (ref-of x)
 
 -- x + y or x − y; where one of them is the source's zero, the other, turned by 1 or −1
-abbrev pub paired : Plan → ℕ → ℕ → ℕ → State
+unfoldable pub paired : Plan → ℕ → ℕ → ℕ → State
 paired plan mode x y =
     cond (eqb y (plan .zero)) (on-one (turning 0) x) (cond (eqb x (plan .zero)) (on-one (turning (cond (eqb mode 8) 0 4)) y) (numbered x y mode))
 
 -- y turned if the controls from stage k on are 1, else x; past the last stage, or where the two are one, no control counts
-abbrev pub chosen : Plan → ℕ → ℕ → ℕ → ℕ → State
+unfoldable pub chosen : Plan → ℕ → ℕ → ℕ → ℕ → State
 chosen plan k e x y =
     cond (eqb k (plan .stages)) (on-one (turning e) y) (cond (eqb e 0 && eqb x y) (on-one (turning 0) x) (on-both (choosing k e) x y))
 
