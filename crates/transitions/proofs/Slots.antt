@@ -3,10 +3,15 @@
 use mathlib.Core.Path.{_≡_, sym, _∙_, ap, subst}
 use mathlib.Core.Bool.{Bool, true, false, cond}
 use mathlib.Core.List.{List, [], map}
-use Prim.Native.Nat.{ℕ, zero, suc, _+_, _/_, _%_, _<_}
+use Prim.Native.Nat.{ℕ, zero, suc, _+_, _/_, _%_, _^_, _<_}
 use native.Mathlib.Omega.{arith}
 use lib.Dec.{eqb}
+use lib.IntN.{ℤ}
 use lib.ListN.{length, getD, List·getD-map}
+use lib.Signed.{mag}
+use mir.Facts.{toZ-ofZ}
+use mir.Syntax.{w32}
+use mir.Val.{toZ, ofZ}
 use borrow.Author.Tests.{eq-eqb, ne-eqb, eqb-true, eqb-false}
 use Rattle.algebra.specs.declared.Entry.{Entry}
 use Rattle.algebra.specs.Entry.{𝟘}
@@ -66,3 +71,7 @@ level-at-value s x plan even = rw (ref-of-even x even)
 pub cofactor-value : (s : Store Entry) (x level : ℕ) (b : Bool) → (x % 2 ≡ 1 → ⊥) → x ≡ cofactor s level b x
 unfolding cofactor
 cofactor-value s x level b even = rw (ref-of-even x even)
+
+-- a signed number in a local is read back from its bits
+pub number-held : {z : ℤ} → mag z < 2 ^ 31 → toZ w32 (ofZ w32 z) ≡ z
+number-held h = toZ-ofZ (record { sfits = h })

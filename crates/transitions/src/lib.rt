@@ -2,9 +2,11 @@
 use algebra::Bounded;
 use algebra::Entry;
 ghost use mathlib.Core.Path.{_≡_};
-ghost use mathlib.Core.List.{map};
+ghost use mathlib.Core.List.{[], map};
 ghost use Prim.Native.Nat.{_+_, _/_, _<_, min};
 ghost use lib.Dec.{eqb};
+ghost use lib.IntN.{pos};
+ghost use lib.ListN.{getD};
 ghost use Rattle.algebra.specs.Width.{bounded};
 ghost use Rattle.gates.specs.Rule.{phase, flipped};
 ghost use Rattle.transitions.specs.Plan.{plan-of, plan-rule};
@@ -288,15 +290,22 @@ pub fn is_leaf(x: u32, y: u32, mode: u32) -> bool
     false
 }
 
-fn entry_at(values: &[&[i32]; 4], j: usize) -> Entry
+fn number_at(values: &[&[i32]; 4], part: usize, j: u32) -> i32
+    requires { ⌜ (part < 4) × Holds-slot (map now (now values)) j ⌝ }
+    ensures { λ r. ⌜ r ≡ getD (getD (map now (now (values .entry))) part []) j (pos 0) ⌝ }
+{
+    values[part][j as usize]
+}
+
+fn entry_at(values: &[&[i32]; 4], j: u32) -> Entry
     requires { ⌜ Holds-slot (map now (now values)) j ⌝ }
     ensures { λ r. ⌜ r ≡ entry-in (map now (now (values .entry))) j ⌝ }
 {
     Entry {
-        a: values[0][j],
-        b: values[1][j],
-        c: values[2][j],
-        d: values[3][j],
+        a: number_at(values, 0, j),
+        b: number_at(values, 1, j),
+        c: number_at(values, 2, j),
+        d: number_at(values, 3, j),
     }
 }
 
@@ -306,11 +315,11 @@ pub fn leaf(values: &[&[i32]; 4], x: u32, y: u32, mode: u32, width: u32) -> Boun
     ensures { λ r. ⌜ Reading-leaf (map now (now (values .entry))) (numbered x y mode)
         (λ s. r ≡ bounded width (leaf-entry s (numbered x y mode))) ⌝ }
 {
-    let e = entry_at(values, (x / 2) as usize);
+    let e = entry_at(values, x / 2);
     if mode < 8 {
         return algebra::turned(e, mode, width);
     }
-    let f = entry_at(values, (y / 2) as usize);
+    let f = entry_at(values, y / 2);
     if mode == 8 {
         return algebra::sum(e, f, width);
     }

@@ -1,75 +1,32 @@
+-- `transitions::entry_at` meets its contract: the four numbers in the slot. Assumes nothing.
+use mathlib.Core.Path.{_∙_}
+use Rattle.algebra.specs.Entry.{entry}
+use Rattle.transitions.proofs.Slots.{number-held}
 use borrow.Author.Needs.{needs}
 use Rattle.transitions.proofs.entry_at.Statement.{statement}
 use Rattle.transitions.proofs.entry_at.Tie as tie
-use Rattle.transitions.proofs.entry_at.Reads as reads
-use Rattle.transitions.proofs.entry_at.Lts as lts
 
--- src/lib.rt:263:12
-mul-t5 : tie.Need-mul-t5
-mul-t5 c = ?
+number-at-requires : tie.Need-number-at-requires
+number-at-requires c κs = search needs
 
--- src/lib.rt:263:12
-index-1-t6 : tie.Need-index-1-t6
-index-1-t6 c = search needs
+number-at-requires-2 : tie.Need-number-at-requires-2
+number-at-requires-2 c κs = search needs
 
--- src/lib.rt:263:12
-index-2-t7 : tie.Need-index-2-t7
-index-2-t7 c = ?
+number-at-requires-3 : tie.Need-number-at-requires-3
+number-at-requires-3 c κs = search needs
 
--- src/lib.rt:264:12
-mul-t10 : tie.Need-mul-t10
-mul-t10 c = ?
+number-at-requires-4 : tie.Need-number-at-requires-4
+number-at-requires-4 c κs = search needs
 
--- src/lib.rt:264:12
-index-1-t11 : tie.Need-index-1-t11
-index-1-t11 c = search needs
-
--- src/lib.rt:264:12
-index-2-t12 : tie.Need-index-2-t12
-index-2-t12 c = ?
-
--- src/lib.rt:265:12
-mul-t15 : tie.Need-mul-t15
-mul-t15 c = ?
-
--- src/lib.rt:265:12
-index-1-t16 : tie.Need-index-1-t16
-index-1-t16 c = search needs
-
--- src/lib.rt:265:12
-index-2-t17 : tie.Need-index-2-t17
-index-2-t17 c = ?
-
--- src/lib.rt:266:12
-mul-t20 : tie.Need-mul-t20
-mul-t20 c = ?
-
--- src/lib.rt:266:12
-index-1-t21 : tie.Need-index-1-t21
-index-1-t21 c = search needs
-
--- src/lib.rt:266:12
-index-2-t22 : tie.Need-index-2-t22
-index-2-t22 c = ?
-
--- src/lib.rt:258:1
 returns : tie.Need-returns
-returns c = ?
+returns c = λ i. entry ((number-held (c .before .before .before .number-at .ok) ∙ c .before .before .before .number-at .ensures) i) ((number-held (c .before .before .number-at2 .ok) ∙ c .before .before .number-at2 .ensures) i) ((number-held (c .before .number-at3 .ok) ∙ c .before .number-at3 .ensures) i) ((number-held (c .number-at4 .ok) ∙ c .number-at4 .ensures) i)
 
 pub entry-at-spec : {M : Type 1} → statement M
 entry-at-spec =
     tie.close
     (tie.spec
-    mul-t5
-    index-1-t6
-    index-2-t7
-    mul-t10
-    index-1-t11
-    index-2-t12
-    mul-t15
-    index-1-t16
-    index-2-t17
-    mul-t20
-    index-1-t21
-    index-2-t22
+    number-at-requires
+    number-at-requires-2
+    number-at-requires-3
+    number-at-requires-4
     returns)

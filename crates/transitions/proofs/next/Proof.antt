@@ -32,13 +32,16 @@ returns-2 c = λ s held x-refers y-refers.
     ∙ next-pair _ s _ _ _ _ _ (c .before .before .before .before .if1 .left) (c .before .before .before .if2 .taken) (c .before .before .before .before .before .pre .1 .coded)
 
 next-waiting-requires : tie.Need-next-waiting-requires
-next-waiting-requires c κs = (stage-waiting _ (c .before .if2 .left) (c .if3 .taken) (c .before .before .before .pre .1 .staged), record {
-      a-bit = c .before .before .before .pre .0;
-      few = omega (arith, stage-waiting _ (c .before .if2 .left) (c .if3 .taken) (c .before .before .before .pre .1 .staged));
-      readable = c .before .before .before .pre .1 .x-readable;
-      phase-zero = c .before .before .before .pre .1 .phase-zero;
-      phase-one = c .before .before .before .pre .1 .phase-one;
-    })
+next-waiting-requires c κs = (
+  stage-waiting _ (c .before .if2 .left) (c .if3 .taken) (c .before .before .before .pre .1 .staged),
+  record {
+    a-bit = c .before .before .before .pre .0;
+    few = omega (arith, stage-waiting _ (c .before .if2 .left) (c .if3 .taken) (c .before .before .before .pre .1 .staged));
+    readable = c .before .before .before .pre .1 .x-readable;
+    phase-zero = c .before .before .before .pre .1 .phase-zero;
+    phase-one = c .before .before .before .pre .1 .phase-one;
+  },
+)
 
 returns-3 : tie.Need-returns-3
 unfolding next-state
