@@ -1,0 +1,4 @@
+pub mod Codes
+pub mod Slots
+pub mod Turns
+pub mod Leaves

@@ -1,2 +1,5 @@
 pub mod Plan
 pub mod State
+pub mod Next
+pub mod Source
+pub mod Valid

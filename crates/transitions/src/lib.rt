@@ -1,4 +1,19 @@
 // A step by one gate, level by level: the states of the walk, and what each bit turns them into.
+use algebra::Bounded;
+use algebra::Entry;
+ghost use mathlib.Core.Path.{_≡_};
+ghost use mathlib.Core.List.{[], map};
+ghost use Prim.Native.Nat.{_+_, _/_, _<_, min};
+ghost use lib.Dec.{eqb};
+ghost use lib.IntN.{pos};
+ghost use lib.ListN.{getD};
+ghost use Rattle.algebra.specs.Width.{bounded};
+ghost use Rattle.gates.specs.Rule.{phase, flipped};
+ghost use Rattle.transitions.specs.Plan.{plan-of, plan-rule};
+ghost use Rattle.transitions.specs.State.{ref-of, level-of, top, waiting, choosing};
+ghost use Rattle.transitions.specs.Source.{entry-in, Readable, Holds-slot, Reading, Reading-both, Reading-leaf};
+ghost use Rattle.transitions.specs.Next.{numbered, cofactor, paired, chosen, at-target, next-by, next-state, is-leaf, leaf-entry};
+ghost use Rattle.transitions.specs.Valid.{Usable, Targeting};
 
 // The step's plan, as numbers: the levels at which the gate asks, lowest first (its controls and its target), and then
 // how many there are, which of them is the target's, what the gate does there, the source's zero, the sizes of the tables,
@@ -34,4 +49,279 @@ pub struct State {
     pub x: u32,
     pub y: u32,
     pub mode: u32,
+}
+
+// ---- where a state asks next
+
+fn least(a: u32, b: u32) -> u32
+    ensures { λ r. ⌜ r ≡ min a b ⌝ }
+{
+    if a < b { a } else { b }
+}
+
+// The level of a reference; a value's is past the last.
+fn level_at(src: &[&[u32]; 3], plan: &[u32; 32], x: u32) -> u32
+    requires { ⌜ Readable (map now (now src)) x ⌝ }
+    ensures { λ r. ⌜ Reading (map now (now (src .entry))) x (λ s. r ≡ level-of (plan-of (now (plan .entry))) s (ref-of x)) ⌝ }
+{
+    if x % 2 == 1 {
+        src[0][(x / 2) as usize]
+    } else {
+        plan[LEVELS]
+    }
+}
+
+// The level that the state asks about: the first of its references' and of the gate's.
+pub fn asked(src: &[&[u32]; 3], plan: &[u32; 32], x: u32, y: u32, mode: u32) -> u32
+    requires { ⌜ Usable (plan-of (now plan)) (map now (now src)) (numbered x y mode) ⌝ }
+    ensures { λ r. ⌜ Reading-both (map now (now (src .entry))) x y
+        (λ s. r ≡ top (plan-of (now (plan .entry))) s (numbered x y mode)) ⌝ }
+{
+    let a = level_at(src, plan, x);
+    if mode < 8 {
+        return a;
+    }
+    if mode < 16 {
+        return least(a, level_at(src, plan, y));
+    }
+    if mode < 64 {
+        return least(a, plan[(mode - 16) as usize]);
+    }
+    least(
+        least(a, level_at(src, plan, y)),
+        plan[((mode - 64) / 8) as usize],
+    )
+}
+
+// ---- what a bit turns a state into
+
+// The reference below, by the bit, if it asks at this level; else the reference.
+fn cofactor(src: &[&[u32]; 3], lv: u32, bit: u32, x: u32) -> u32
+    requires { ⌜ (bit < 2) × Readable (map now (now src)) x ⌝ }
+    ensures { λ r. ⌜ Reading (map now (now (src .entry))) x (λ s. r ≡ cofactor s lv (eqb bit 1) x) ⌝ }
+{
+    if x % 2 == 1 {
+        let i = (x / 2) as usize;
+        if src[0][i] == lv {
+            return src[1 + bit as usize][i];
+        }
+    }
+    x
+}
+
+// x + y or x − y, by the mode; where one of them is the source's zero, the other, times 1 or −1.
+fn paired(plan: &[u32; 32], x: u32, y: u32, mode: u32) -> State
+    ensures { λ r. ⌜ r ≡ paired (plan-of (now (plan .entry))) mode x y ⌝ }
+{
+    if y == plan[ZERO] {
+        return State { x, y: x, mode: 0 };
+    }
+    if x == plan[ZERO] {
+        if mode == 8 {
+            return State { x: y, y, mode: 0 };
+        }
+        return State { x: y, y, mode: 4 };
+    }
+    State { x, y, mode }
+}
+
+// y times w8 to the power e if every control from stage k on is 1, else x.
+fn chosen(plan: &[u32; 32], k: u32, e: u32, x: u32, y: u32) -> State
+    requires { ⌜ (k < 18) × (e < 8) ⌝ }
+    ensures { λ r. ⌜ r ≡ chosen (plan-of (now (plan .entry))) k e x y ⌝ }
+{
+    if k == plan[STAGES] {
+        return State { x: y, y, mode: e };
+    }
+    if e == 0 {
+        if x == y {
+            return State { x, y: x, mode: 0 };
+        }
+    }
+    State {
+        x,
+        y,
+        mode: 64 + 8 * k + e,
+    }
+}
+
+// The power of w8 at the target's bit.
+fn phase_at(plan: &[u32; 32], bit: u32) -> u32
+    requires { ⌜ bit < 2 ⌝ }
+    ensures { λ r. ⌜ r ≡ phase (plan-of (now (plan .entry)) .phases) (eqb bit 1) ⌝ }
+{
+    if bit == 1 {
+        plan[PHASE_ONE]
+    } else {
+        plan[PHASE_ZERO]
+    }
+}
+
+// The target's bit that the entry is taken from.
+fn taken_from(plan: &[u32; 32], bit: u32) -> u32
+    requires { ⌜ bit < 2 ⌝ }
+    ensures { λ r. ⌜ (r < 2) × (eqb r 1 ≡ flipped (plan-rule (plan-of (now (plan .entry)))) (eqb bit 1)) ⌝ }
+{
+    if plan[FLIPS] == 1 { 1 - bit } else { bit }
+}
+
+// The target's question, with the controls from stage k on still to come.
+fn at_target(src: &[&[u32]; 3], plan: &[u32; 32], lv: u32, bit: u32, k: u32, x: u32) -> State
+    requires { ⌜ Targeting (plan-of (now plan)) (map now (now src)) bit k x ⌝ }
+    ensures { λ r. ⌜ Reading (map now (now (src .entry))) x (λ s. r ≡ at-target (plan-of (now (plan .entry))) s lv (eqb bit 1) k x) ⌝ }
+{
+    if plan[MIXES] == 1 {
+        let low = cofactor(src, lv, 0, x);
+        let high = cofactor(src, lv, 1, x);
+        return paired(plan, low, high, 8 + bit);
+    }
+    let own = cofactor(src, lv, bit, x);
+    let other = cofactor(src, lv, taken_from(plan, bit), x);
+    chosen(plan, k, phase_at(plan, bit), own, other)
+}
+
+// A gate that is still to act, from stage k on: its question, or one that it passes by.
+fn next_waiting(src: &[&[u32]; 3], plan: &[u32; 32], lv: u32, bit: u32, k: u32, x: u32) -> State
+    requires { ⌜ (k < 17) × Targeting (plan-of (now plan)) (map now (now src)) bit (k + 1) x ⌝ }
+    ensures { λ r. ⌜ Reading (map now (now (src .entry))) x (λ s. r ≡ next-by (plan-of (now (plan .entry))) s lv (eqb bit 1) (waiting k) x x) ⌝ }
+{
+    if plan[k as usize] == lv {
+        if plan[TARGET] == k {
+            return at_target(src, plan, lv, bit, k + 1, x);
+        }
+        let own = cofactor(src, lv, bit, x);
+        if bit == 1 {
+            return State {
+                x: own,
+                y: own,
+                mode: 17 + k,
+            };
+        }
+        return State {
+            x: own,
+            y: own,
+            mode: 0,
+        };
+    }
+    let own = cofactor(src, lv, bit, x);
+    State {
+        x: own,
+        y: own,
+        mode: 16 + k,
+    }
+}
+
+// A gate that has acted on y, with the controls from stage k on still to come.
+fn next_choosing(
+    src: &[&[u32]; 3],
+    plan: &[u32; 32],
+    lv: u32,
+    bit: u32,
+    k: u32,
+    e: u32,
+    x: u32,
+    y: u32,
+) -> State
+    requires { ⌜ (k < 17) × (e < 8) × (bit < 2) × Readable (map now (now src)) x × Readable (map now (now src)) y ⌝ }
+    ensures { λ r. ⌜ Reading-both (map now (now (src .entry))) x y
+        (λ s. r ≡ next-by (plan-of (now (plan .entry))) s lv (eqb bit 1) (choosing k e) x y) ⌝ }
+{
+    let own = cofactor(src, lv, bit, x);
+    let other = cofactor(src, lv, bit, y);
+    if plan[k as usize] == lv {
+        if bit == 1 {
+            return chosen(plan, k + 1, e, own, other);
+        }
+        return State {
+            x: own,
+            y: own,
+            mode: 0,
+        };
+    }
+    chosen(plan, k, e, own, other)
+}
+
+// The state after the bit of level lv.
+pub fn next(
+    src: &[&[u32]; 3],
+    plan: &[u32; 32],
+    lv: u32,
+    bit: u32,
+    x: u32,
+    y: u32,
+    mode: u32,
+) -> State
+    requires { ⌜ (bit < 2) × Usable (plan-of (now plan)) (map now (now src)) (numbered x y mode) ⌝ }
+    ensures { λ r. ⌜ Reading-both (map now (now (src .entry))) x y
+        (λ s. r ≡ next-state (plan-of (now (plan .entry))) s lv (eqb bit 1) (numbered x y mode)) ⌝ }
+{
+    if mode < 8 {
+        let own = cofactor(src, lv, bit, x);
+        return State {
+            x: own,
+            y: own,
+            mode,
+        };
+    }
+    if mode < 16 {
+        let own = cofactor(src, lv, bit, x);
+        let other = cofactor(src, lv, bit, y);
+        return paired(plan, own, other, mode);
+    }
+    if mode < 64 {
+        return next_waiting(src, plan, lv, bit, mode - 16, x);
+    }
+    next_choosing(src, plan, lv, bit, (mode - 64) / 8, (mode - 64) % 8, x, y)
+}
+
+// ---- no question left
+
+pub fn is_leaf(x: u32, y: u32, mode: u32) -> bool
+    ensures { λ r. ⌜ r ≡ is-leaf (numbered x y mode) ⌝ }
+{
+    if mode < 8 {
+        return x % 2 == 0;
+    }
+    if mode < 16 {
+        if x % 2 == 0 {
+            return y % 2 == 0;
+        }
+    }
+    false
+}
+
+fn number_at(values: &[&[i32]; 4], part: usize, j: u32) -> i32
+    requires { ⌜ (part < 4) × Holds-slot (map now (now values)) j ⌝ }
+    ensures { λ r. ⌜ r ≡ getD (getD (map now (now (values .entry))) part []) j (pos 0) ⌝ }
+{
+    values[part][j as usize]
+}
+
+fn entry_at(values: &[&[i32]; 4], j: u32) -> Entry
+    requires { ⌜ Holds-slot (map now (now values)) j ⌝ }
+    ensures { λ r. ⌜ r ≡ entry-in (map now (now (values .entry))) j ⌝ }
+{
+    Entry {
+        a: number_at(values, 0, j),
+        b: number_at(values, 1, j),
+        c: number_at(values, 2, j),
+        d: number_at(values, 3, j),
+    }
+}
+
+// The entry of a state with no question left, if it lies within the width.
+pub fn leaf(values: &[&[i32]; 4], x: u32, y: u32, mode: u32, width: u32) -> Bounded
+    requires { ⌜ Holds-slot (map now (now values)) (x / 2) × Holds-slot (map now (now values)) (y / 2) ⌝ }
+    ensures { λ r. ⌜ Reading-leaf (map now (now (values .entry))) (numbered x y mode)
+        (λ s. r ≡ bounded width (leaf-entry s (numbered x y mode))) ⌝ }
+{
+    let e = entry_at(values, x / 2);
+    if mode < 8 {
+        return algebra::turned(e, mode, width);
+    }
+    let f = entry_at(values, y / 2);
+    if mode == 8 {
+        return algebra::sum(e, f, width);
+    }
+    algebra::difference(e, f, width)
 }

@@ -1,0 +1,99 @@
+-- References and modes as numbers: each is read back from its number.
+-- Assumes nothing.
+use mathlib.Core.Path.{_≡_, refl, sym, _∙_, ap, ap₂, subst}
+use mathlib.Core.Bool.{Bool, true, false, cond}
+use Prim.Native.Nat.{ℕ, _+_, _-_, _*_, _/_, _%_, _<_, _≤_}
+use native.Mathlib.Omega.{arith}
+use lib.Dec.{eqb, ltb}
+use borrow.Author.Tests.{eq-eqb, ne-eqb, eqb-true, eqb-false, lt-ltb, le-ltb}
+use Rattle.diagrams.specs.Diagram.{Ref, value, node, code}
+use Rattle.transitions.specs.State.{ref-of, Mode, turning, adding, subtracting, waiting, choosing, mode-of}
+use Rattle.transitions.specs.Next.{mode-code}
+use Rattle.transitions.specs.Valid.{Staged}
+
+-- ---- references
+
+pub ref-of-odd : (x : ℕ) → x % 2 ≡ 1 → ref-of x ≡ node (x / 2)
+ref-of-odd x odd = rw (eq-eqb _ _ odd)
+
+pub ref-of-even : (x : ℕ) → (x % 2 ≡ 1 → ⊥) → ref-of x ≡ value (x / 2)
+ref-of-even x even = rw (ne-eqb _ _ even)
+
+-- "A reference 2·j is value j; 2·i + 1 is node i."
+pub ref-of-code : (r : Ref) → ref-of (code r) ≡ r
+ref-of-code (value j) = ref-of-even (2 * j) (λ e. even j e) ∙ ap value (half j)
+  where
+    even : (j : ℕ) → (2 * j) % 2 ≡ 1 → ⊥
+    even j e = omega arith
+
+    half : (j : ℕ) → (2 * j) / 2 ≡ j
+    half j = omega arith
+ref-of-code (node i) = ref-of-odd (2 * i + 1) (odd i) ∙ ap node (half i)
+  where
+    odd : (i : ℕ) → (2 * i + 1) % 2 ≡ 1
+    odd i = omega arith
+
+    half : (i : ℕ) → (2 * i + 1) / 2 ≡ i
+    half i = omega arith
+
+pub code-ref-of : (x : ℕ) → code (ref-of x) ≡ x
+code-ref-of x = by-test (eqb (x % 2) 1) refl
+  where
+    by-test : (b : Bool) → eqb (x % 2) 1 ≡ b → code (cond b (node (x / 2)) (value (x / 2))) ≡ x
+    by-test true e = let odd : x % 2 ≡ 1 = eqb-true _ _ e in omega arith
+    by-test false e = let even : x % 2 ≡ 1 → ⊥ = eqb-false _ _ e in omega (arith, even-left x even)
+      where
+        even-left : (x : ℕ) → (x % 2 ≡ 1 → ⊥) → x % 2 ≡ 0
+        even-left x h = omega arith
+
+-- ---- modes
+
+pub mode-turning : (m : ℕ) → m < 8 → mode-of m ≡ turning m
+unfolding mode-of
+mode-turning m h = rw (lt-ltb m 8 h)
+
+pub mode-adding : mode-of 8 ≡ adding
+unfolding mode-of
+mode-adding = refl
+
+pub mode-subtracting : (m : ℕ) → 8 < m → m < 16 → mode-of m ≡ subtracting
+unfolding mode-of
+mode-subtracting m low high = rw (le-ltb m 8 (omega arith), ne-eqb m 8 (λ e. omega arith), lt-ltb m 16 high)
+
+pub mode-waiting : (m : ℕ) → 16 ≤ m → m < 64 → mode-of m ≡ waiting (m - 16)
+unfolding mode-of
+mode-waiting m low high = rw (le-ltb m 8 (omega arith), ne-eqb m 8 (λ e. omega arith), le-ltb m 16 low, lt-ltb m 64 high)
+
+pub mode-choosing : (m : ℕ) → 64 ≤ m → mode-of m ≡ choosing ((m - 64) / 8) ((m - 64) % 8)
+unfolding mode-of
+mode-choosing m low = rw (le-ltb m 8 (omega arith), ne-eqb m 8 (λ e. omega arith), le-ltb m 16 (omega arith), le-ltb m 64 low)
+
+-- a mode whose numbers are small enough for its code
+abbrev pub Codes : Mode → Type 0
+Codes (turning e) = e < 8
+Codes adding = Unit {0}
+Codes subtracting = Unit {0}
+Codes (waiting k) = k < 48
+Codes (choosing k e) = e < 8
+
+pub mode-of-code : (m : Mode) → Codes m → mode-of (mode-code m) ≡ m
+mode-of-code (turning e) h = mode-turning e h
+mode-of-code adding h = mode-adding
+mode-of-code subtracting h = mode-subtracting 9 (omega arith) (omega arith)
+mode-of-code (waiting k) h = mode-waiting (16 + k) (omega arith) (omega arith) ∙ ap waiting (omega arith)
+mode-of-code (choosing k e) h = mode-choosing (64 + 8 * k + e) (omega arith) ∙ ap₂ choosing (omega arith) (omega arith)
+
+-- what holds of a sum and of a difference holds of each mode between
+pub mode-pair : (P : Mode → Type 0) (m : ℕ) → 8 ≤ m → m < 16 → P adding → P subtracting → P (mode-of m)
+mode-pair P m low high sum difference = by-test (eqb m 8) refl
+  where
+    by-test : (b : Bool) → eqb m 8 ≡ b → P (mode-of m)
+    by-test true e = subst P (sym (ap mode-of (eqb-true m 8 e) ∙ mode-adding)) sum
+    by-test false e = let other : m ≡ 8 → ⊥ = eqb-false m 8 e in subst P (sym (mode-subtracting m (omega arith) high)) difference
+
+-- the stage of a mode is one of the plan's slots
+pub stage-waiting : (m : ℕ) → 16 ≤ m → m < 64 → Staged (mode-of m) → m - 16 < 17
+stage-waiting m low high staged = rw (mode-waiting m low high) at staged
+
+pub stage-choosing : (m : ℕ) → 64 ≤ m → Staged (mode-of m) → (m - 64) / 8 < 17
+stage-choosing m low staged = rw (mode-choosing m low) at staged

@@ -1,0 +1,117 @@
+-- What the pieces of a transition come to at each return of the code.
+-- Assumes nothing.
+use mathlib.Core.Path.{_≡_, refl, sym, _∙_, ap, ap₂}
+use mathlib.Core.Bool.{Bool, true, false, cond, not}
+use Prim.Native.Nat.{ℕ, suc, _+_, _-_, _<_, _≤_, min}
+use native.Mathlib.Numerals.{add-one}
+use native.Mathlib.Omega.{arith}
+use lib.Dec.{eqb}
+use borrow.Author.Tests.{eq-eqb, ne-eqb, eqb-true}
+use Rattle.algebra.specs.declared.Entry.{Entry}
+use Rattle.gates.specs.declared.Phases.{Phases}
+use Rattle.gates.specs.Rule.{phase, flipped}
+use Rattle.diagrams.specs.Diagram.{Store}
+use Rattle.transitions.specs.Plan.{Plan, plan-rule}
+use Rattle.transitions.specs.State.{ref-of, level-of, Mode, turning, waiting, choosing, mode-of, top-by, top}
+use Rattle.transitions.specs.Next.{mode-code, numbered, on-both, on-one, cofactor, paired, chosen, at-target, next-by, next-state}
+use Rattle.transitions.proofs.Codes.{mode-pair}
+use Rattle.transitions.proofs.Slots.{bit-cases}
+
+-- ---- tests
+
+pub cond-true : {A : Type 0} (b : Bool) (x y : A) → b ≡ true → x ≡ cond b x y
+cond-true b x y e = ap (λ (t : Bool). cond t x y) (sym e)
+
+pub cond-false : {A : Type 0} (b : Bool) (x y : A) → b ≡ false → y ≡ cond b x y
+cond-false b x y e = ap (λ (t : Bool). cond t x y) (sym e)
+
+-- ---- the target's question
+
+module _ (plan : Plan) (s : Store Entry) (level k x : ℕ) where
+  pub at-target-mixes : (bit low high : ℕ) → bit < 2 → plan .mixes ≡ true → low ≡ cofactor s level false x → high ≡ cofactor s level true x
+      → paired plan (8 + bit) low high ≡ at-target plan s level (eqb bit 1) k x
+  unfolding at-target
+  at-target-mixes bit low high a-bit mixes low-is high-is =
+      ap (λ (mode : ℕ). paired plan mode low high) (bit-cases (λ (b : ℕ). 8 + b ≡ cond (eqb b 1) 9 8) refl refl bit a-bit)
+      ∙ ap₂ (paired plan (cond (eqb bit 1) 9 8)) low-is high-is
+      ∙ cond-true (plan .mixes) _ _ mixes
+
+  pub at-target-moves : (b : Bool) (from e own other : ℕ) → plan .mixes ≡ false → eqb from 1 ≡ flipped (plan-rule plan) b → e ≡ phase (plan .phases) b
+      → own ≡ cofactor s level b x → other ≡ cofactor s level (eqb from 1) x → chosen plan k e own other ≡ at-target plan s level b k x
+  unfolding at-target
+  at-target-moves b from e own other moves from-is e-is own-is other-is =
+      ap (λ (power : ℕ). chosen plan k power own other) e-is
+      ∙ ap₂ (chosen plan k (phase (plan .phases) b)) own-is (other-is ∙ ap (λ (taken : Bool). cofactor s level taken x) from-is)
+      ∙ cond-false (plan .mixes) _ _ moves
+
+-- the flipped bit of a bit
+pub flipped-bit : (bit : ℕ) → bit < 2 → (1 - bit < 2) × (eqb (1 - bit) 1 ≡ not (eqb bit 1))
+flipped-bit = bit-cases (λ (b : ℕ). (1 - b < 2) × (eqb (1 - b) 1 ≡ not (eqb b 1))) (omega arith, refl) (omega arith, refl)
+
+pub phase-below : (p : Phases) (b : Bool) {e : ℕ} → e ≡ phase p b → p .zero < 8 → p .one < 8 → e < 8
+phase-below p true e-is zero-below one-below = omega arith
+phase-below p false e-is zero-below one-below = omega arith
+
+-- ---- a question of the gate, or one that it passes by
+
+module _ (plan : Plan) (s : Store Entry) (level k x : ℕ) (b : Bool) where
+  pub waiting-target : plan .stage k ≡ level → plan .target ≡ k → at-target plan s level b (k + 1) x ≡ next-by plan s level b (waiting k) x x
+  waiting-target here target = rw (eq-eqb _ _ here, eq-eqb _ _ target, add-one)
+
+  pub waiting-set : (own : ℕ) → plan .stage k ≡ level → (plan .target ≡ k → ⊥) → b ≡ true → own ≡ cofactor s level b x
+      → numbered own own (17 + k) ≡ next-by plan s level b (waiting k) x x
+  waiting-set own here control set own-is =
+      let on : 17 + k ≡ 16 + suc k = omega arith in
+      rw (eq-eqb _ _ here, ne-eqb _ _ control)
+      (ap₂ (λ (o m : ℕ). numbered o o m) own-is (on ∙ ap mode-code (cond-true b (waiting (suc k)) (turning 0) set)))
+
+  pub waiting-clear : (own : ℕ) → plan .stage k ≡ level → (plan .target ≡ k → ⊥) → b ≡ false → own ≡ cofactor s level b x
+      → numbered own own 0 ≡ next-by plan s level b (waiting k) x x
+  waiting-clear own here control clear own-is =
+      rw (eq-eqb _ _ here, ne-eqb _ _ control)
+      (ap₂ (λ (o m : ℕ). numbered o o m) own-is (ap mode-code (cond-false b (waiting (suc k)) (turning 0) clear)))
+
+  pub waiting-passed : (own : ℕ) → (plan .stage k ≡ level → ⊥) → own ≡ cofactor s level b x
+      → numbered own own (16 + k) ≡ next-by plan s level b (waiting k) x x
+  waiting-passed own elsewhere own-is = rw (ne-eqb _ _ elsewhere) (ap (λ (o : ℕ). numbered o o (16 + k)) own-is)
+
+module _ (plan : Plan) (s : Store Entry) (level k e x y : ℕ) (b : Bool) (own other : ℕ) (own-is : own ≡ cofactor s level b x)
+    (other-is : other ≡ cofactor s level b y) where
+  pub choosing-set : plan .stage k ≡ level → b ≡ true → chosen plan (k + 1) e own other ≡ next-by plan s level b (choosing k e) x y
+  choosing-set here set =
+      rw (eq-eqb _ _ here, add-one)
+      (ap₂ (chosen plan (suc k) e) own-is other-is
+      ∙ cond-true b _ _ set)
+
+  pub choosing-clear : plan .stage k ≡ level → b ≡ false → numbered own own 0 ≡ next-by plan s level b (choosing k e) x y
+  choosing-clear here clear =
+      rw (eq-eqb _ _ here)
+      (ap (λ (o : ℕ). numbered o o 0) own-is ∙ cond-false b _ _ clear)
+
+  pub choosing-passed : (plan .stage k ≡ level → ⊥) → chosen plan k e own other ≡ next-by plan s level b (choosing k e) x y
+  choosing-passed elsewhere = rw (ne-eqb _ _ elsewhere) (ap₂ (chosen plan k e) own-is other-is)
+
+-- ---- two references
+
+pub chosen-both : (plan : Plan) (k e x y : ℕ) → (k ≡ plan .stages → ⊥) → (e ≡ 0 → x ≡ y → ⊥) → on-both (choosing k e) x y ≡ chosen plan k e x y
+unfolding chosen
+chosen-both plan k e x y more apart = by-power (eqb e 0) refl
+  where
+    by-power : (b : Bool) → eqb e 0 ≡ b → on-both (choosing k e) x y ≡ chosen plan k e x y
+    by-power true none = simp (ne-eqb _ _ more, none, ne-eqb _ _ (apart (eqb-true _ _ none)))
+    by-power false some = simp (ne-eqb _ _ more, some)
+
+-- a sum and a difference ask where the first of the two references does
+pub top-pair : (plan : Plan) (s : Store Entry) (x y m : ℕ) → 8 ≤ m → m < 16
+    → min (level-of plan s (ref-of x)) (level-of plan s (ref-of y)) ≡ top plan s (numbered x y m)
+unfolding top
+top-pair plan s x y m low high =
+    mode-pair (λ (mode : Mode). min (level-of plan s (ref-of x)) (level-of plan s (ref-of y)) ≡ top-by plan s mode (ref-of x) (ref-of y)) m low high refl refl
+
+pub next-pair : (plan : Plan) (s : Store Entry) (level : ℕ) (b : Bool) (x y m : ℕ) → 8 ≤ m → m < 16 → mode-code (mode-of m) ≡ m
+    → paired plan m (cofactor s level b x) (cofactor s level b y) ≡ next-state plan s level b (numbered x y m)
+unfolding next-state
+next-pair plan s level b x y m low high coded =
+    mode-pair
+    (λ (mode : Mode). mode-code mode ≡ m → paired plan m (cofactor s level b x) (cofactor s level b y) ≡ next-by plan s level b mode x y)
+    m low high (λ e. rw (← e)) (λ e. rw (← e)) coded

@@ -1,0 +1,68 @@
+-- `transitions::at_target` meets its contract: the gate mixes the two cofactors, or takes one of them. Assumes nothing.
+use mathlib.Core.Path.{_∙_}
+use lib.Dec.{eqb}
+use borrow.Author.Tests.{eq-eqb, ne-eqb}
+use Rattle.transitions.proofs.Turns.{at-target-mixes, at-target-moves, phase-below}
+use borrow.Author.Needs.{needs}
+use Rattle.transitions.proofs.at_target.Statement.{statement}
+use Rattle.transitions.proofs.at_target.Tie as tie
+
+element-copy-out-if1 : tie.Need-element-copy-out-if1
+element-copy-out-if1 c = search needs
+
+cofactor-requires : tie.Need-cofactor-requires
+cofactor-requires c κs = search needs
+
+cofactor-requires-2 : tie.Need-cofactor-requires-2
+cofactor-requires-2 c κs = search needs
+
+add-paired : tie.Need-add-paired
+add-paired c = search needs
+
+paired-requires : tie.Need-paired-requires
+paired-requires c κs = search needs
+
+returns : tie.Need-returns
+returns c = λ s held refers.
+    c .paired .ensures
+    ∙ at-target-mixes _ s _ _ _ _ _ _ (c .before .before .before .before .before .pre .a-bit) (eq-eqb _ _ (c .before .before .before .if1 .taken))
+    (c .before .before .cofactor .ensures s held refers) (c .before .cofactor2 .ensures s held refers)
+
+cofactor-requires-3 : tie.Need-cofactor-requires-3
+cofactor-requires-3 c κs = search needs
+
+taken-from-requires : tie.Need-taken-from-requires
+taken-from-requires c κs = search needs
+
+cofactor-requires-4 : tie.Need-cofactor-requires-4
+cofactor-requires-4 c κs = search needs
+
+phase-at-requires : tie.Need-phase-at-requires
+phase-at-requires c κs = search needs
+
+chosen-requires : tie.Need-chosen-requires
+chosen-requires c κs = (c .before .before .before .before .before .before .pre .few, phase-below _ (eqb (c .before .before .before .before .before .before .args .bit) 1) (c .phase-at .ensures) (c .before .before .before .before .before .before .pre .phase-zero) (c .before .before .before .before .before .before .pre .phase-one))
+
+returns-2 : tie.Need-returns-2
+returns-2 c = λ s held refers.
+    c .chosen .ensures
+    ∙ at-target-moves _ s _ _ _ (eqb (c .before .before .before .before .before .before .before .args .bit) 1) (c .before .before .before .taken-from .result) _ _ _ (ne-eqb _ _ (c .before .before .before .before .before .if1 .left))
+    (c .before .before .before .taken-from .ensures .1) (c .before .phase-at .ensures)
+    (c .before .before .before .before .cofactor3 .ensures s held refers) (c .before .before .cofactor4 .ensures s held refers)
+
+pub at-target-spec : {M : Type 1} → statement M
+at-target-spec =
+    tie.close
+    (tie.spec
+    element-copy-out-if1
+    cofactor-requires
+    cofactor-requires-2
+    add-paired
+    paired-requires
+    returns
+    cofactor-requires-3
+    taken-from-requires
+    cofactor-requires-4
+    phase-at-requires
+    chosen-requires
+    returns-2)
