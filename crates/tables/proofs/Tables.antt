@@ -228,13 +228,13 @@ module _ (plan : Plan) (memo : List ℕ) (σ τ : State) (answer : ℕ) (fits : 
 pub allRight-cleared : (Right : State → ℕ → Type 0) (plan : Plan) (memo : List ℕ) (to : ℕ) → TableSizes plan → table-end plan ≤ to →
     AllRight Right plan (cleared to memo)
 allRight-cleared Right plan memo to sizes far = record {
-  right = λ τ in-τ settled. absurd (settled (recalled-zeros plan (cleared to memo) τ sizes in-τ (λ i lt. cleared-zero to memo i (omega arith))))
+  right = λ τ in-τ settled. absurd (settled (recalled-zeros plan (cleared to memo) τ sizes in-τ (λ i lt. cleared-zero to memo i (omega arith))));
 }
 
 pub allRight-noted : (Right : State → ℕ → Type 0) (plan : Plan) (memo : List ℕ) (σ : State) (answer : ℕ) → TableFits plan memo → InTable plan σ →
     AllRight Right plan memo → Right σ answer → AllRight Right plan (noted plan memo σ answer)
 allRight-noted Right plan memo σ answer fits in-σ known found = record {
-  right = λ τ in-τ settled. by-case τ in-τ settled (recalled-noted plan memo σ τ answer fits in-σ in-τ)
+  right = λ τ in-τ settled. by-case τ in-τ settled (recalled-noted plan memo σ τ answer fits in-σ in-τ);
 }
   where
     by-case : (τ : State) → InTable plan τ → recalled plan (noted plan memo σ answer) τ ≢ unsettled → Recalled plan memo σ answer τ →
