@@ -60,10 +60,12 @@ place-of plan σ =
     by-tests false false true e f g = alone 2 (lit< tt) (eqb-true _ _ g) (slot-alone plan σ 2 (lit< tt) (simp (e, f, g)))
     by-tests false false false e f g = shared (slot-shared plan σ (simp (e, f, g)))
 
+-- of 65,536 shares each bucket has as many as the others, so none is past the last
+pub share-limit : (mixed slots : ℕ) → 1 ≤ slots → mixed % 65536 * slots < slots * 65536
+share-limit mixed slots some = omega (arith, digits-lt (mod-lt mixed {m = 65536} (lit< tt)) some)
+
 pub bucket-limit : (slots x y mode : ℕ) → 1 ≤ slots → bucket slots x y mode < slots
-bucket-limit slots x y mode some =
-    let mixed = x % 131072 * 679488061819 + y % 131072 * 836218895663 + mode % 1024 * 923031386221 in
-    div-lt-iff-lt-mul (lit< tt) .1 (omega (arith, digits-lt (mod-lt (mixed / 1048576) {m = 65536} (lit< tt)) some))
+bucket-limit slots x y mode some = div-lt-iff-lt-mul (lit< tt) .1 (share-limit _ slots some)
 
 -- ---- where it lies
 
@@ -72,12 +74,20 @@ pub alone-below : (plan : Plan) (σ : State) (k : ℕ) → σ .x < plan .span �
 alone-below plan σ k in-span lt at = rw at (digits-lt lt in-span)
 
 -- the entries after them
-pub entry-room : (plan : Plan) (σ : State) → TableSizes plan → InTable plan σ → 3 * plan .span ≤ slot-of plan σ → slot-of plan σ + 4 ≤ table-end plan
-entry-room plan σ sizes place past = by-place (place-of plan σ)
+pub entry-slot : (plan : Plan) (σ : State) → InTable plan σ → 3 * plan .span ≤ slot-of plan σ →
+    slot-of plan σ ≡ 3 * plan .span + 4 * bucket (plan .slots) (σ .x) (σ .y) (σ .mode)
+entry-slot plan σ place past = by-place (place-of plan σ)
   where
-    by-place : Place plan σ → slot-of plan σ + 4 ≤ table-end plan
-    by-place (alone k lt is at) = omega (arith, alone-below plan σ k (place .first) lt at)
-    by-place (shared at) = omega (arith, bucket-limit (plan .slots) (σ .x) (σ .y) (σ .mode) (sizes .some-slots))
+    by-place : Place plan σ → slot-of plan σ ≡ 3 * plan .span + 4 * bucket (plan .slots) (σ .x) (σ .y) (σ .mode)
+    by-place (alone k lt is at) = absurd (omega (arith, alone-below plan σ k (place .first) lt at))
+    by-place (shared at) = at
+
+pub entry-room : (plan : Plan) (σ : State) → TableSizes plan → InTable plan σ → 3 * plan .span ≤ slot-of plan σ → slot-of plan σ + 4 ≤ table-end plan
+entry-room plan σ sizes place past =
+    omega (arith, entry-slot plan σ place past, bucket-limit (plan .slots) (σ .x) (σ .y) (σ .mode) (sizes .some-slots))
+
+pub at-room : {plan : Plan} {memo : List ℕ} {at : ℕ} {σ : State} → AtSlot plan memo at σ → 3 * plan .span ≤ at → at + 4 ≤ length memo
+at-room {plan} {memo} {at} {σ} s past = omega (arith, s .table .room, s .slot, entry-room plan σ (s .table .sizes) (s .place) (omega (arith, s .slot)))
 
 -- ---- a number of a region belongs to one state
 
