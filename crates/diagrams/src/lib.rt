@@ -79,9 +79,9 @@ pub fn make_node(
 ) -> u32
     requires { ⌜ NodesHeld (length (now level)) heads (nodes-in used (now level) (now low) (now high)) (now level) (now low) (now high) (now index) ⌝ }
     ensures { λ r. ⌜ NodeMade
-        (now (level .entry)) (now (low .entry)) (now (high .entry)) (now (index .entry)) r
+        (now (level .entry)) (now (low .entry)) (now (high .entry)) (now (index .entry))
         (now (level .exit)) (now (low .exit)) (now (high .exit)) (now (index .exit))
-        (length (now (level .entry))) heads (branch lv (ref-of lo) (ref-of hi)) (nodes-in used (now (level .entry)) (now (low .entry)) (now (high .entry))) ⌝ }
+        (length (now (level .entry))) heads (branch lv (ref-of lo) (ref-of hi)) (nodes-in used (now (level .entry)) (now (low .entry)) (now (high .entry))) r ⌝ }
 {
     if lo == hi {
         return lo;

@@ -6,8 +6,8 @@ use Prim.Native.Nat.{ℕ, _+_, _-_, _*_, _/_, _%_, _<_, _≤_}
 use native.Mathlib.Omega.{arith}
 use lib.Dec.{eqb, ltb}
 use borrow.Author.Tests.{eq-eqb, ne-eqb, eqb-true, eqb-false, lt-ltb, le-ltb}
-use Rattle.diagrams.specs.Diagram.{Ref, value, node, code}
-use Rattle.transitions.specs.State.{ref-of, Mode, turning, adding, subtracting, waiting, choosing, mode-of}
+use Rattle.diagrams.specs.Diagram.{Ref, value, node, code, ref-of}
+use Rattle.transitions.specs.State.{Mode, turning, adding, subtracting, waiting, choosing, mode-of}
 use Rattle.transitions.specs.Next.{mode-code}
 use Rattle.transitions.specs.Valid.{Staged}
 

@@ -11,9 +11,9 @@ use lib.IntN.{ℤ}
 use borrow.Author.Tests.{eq-eqb, ne-eqb, eqb-true, eqb-false}
 use Rattle.algebra.specs.declared.Entry.{Entry}
 use Rattle.algebra.specs.Entry.{_⊕_, _⊖_, turned}
-use Rattle.diagrams.specs.Diagram.{Ref, value, node, Store}
+use Rattle.diagrams.specs.Diagram.{Ref, value, node, Store, ref-of}
 use Rattle.diagrams.proofs.Tests.{both-true}
-use Rattle.transitions.specs.State.{ref-of, Mode, adding, subtracting, mode-of}
+use Rattle.transitions.specs.State.{Mode, adding, subtracting, mode-of}
 use Rattle.transitions.specs.Source.{ValuesHeld, entry-in, Refers}
 use Rattle.transitions.specs.Next.{numbered, is-value, is-leaf-by, is-leaf, entry-of, leaf-entry}
 use Rattle.transitions.proofs.Codes.{ref-of-odd, ref-of-even, mode-turning, mode-adding, mode-subtracting, mode-waiting, mode-choosing, mode-pair}

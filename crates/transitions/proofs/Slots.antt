@@ -15,9 +15,9 @@ use mir.Val.{toZ, ofZ}
 use borrow.Author.Tests.{eq-eqb, ne-eqb, eqb-true, eqb-false}
 use Rattle.algebra.specs.declared.Entry.{Entry}
 use Rattle.algebra.specs.Entry.{𝟘}
-use Rattle.diagrams.specs.Diagram.{Ref, value, node, code, Store, node-at}
+use Rattle.diagrams.specs.Diagram.{Ref, value, node, code, Store, node-at, ref-of}
 use Rattle.transitions.specs.Plan.{Plan}
-use Rattle.transitions.specs.State.{ref-of, level-of}
+use Rattle.transitions.specs.State.{level-of}
 use Rattle.transitions.specs.Source.{NodesHeld, Refers}
 use Rattle.transitions.specs.Next.{cofactor, cofactor-by}
 use Rattle.transitions.proofs.Codes.{ref-of-odd, ref-of-even}

@@ -6,10 +6,10 @@ use lib.Dec.{eqb}
 use Rattle.algebra.specs.declared.Entry.{Entry}
 use Rattle.algebra.specs.Entry.{𝟘, _⊕_, _⊖_, turned}
 use Rattle.gates.specs.Rule.{phase, flipped}
-use Rattle.diagrams.specs.Diagram.{Ref, value, node, code, Store, node-at, reached}
+use Rattle.diagrams.specs.Diagram.{Ref, value, node, code, Store, node-at, reached, ref-of}
 use Rattle.transitions.specs.declared.State.{State}
 use Rattle.transitions.specs.Plan.{Plan, plan-rule}
-use Rattle.transitions.specs.State.{ref-of, Mode, turning, adding, subtracting, waiting, choosing, mode-of}
+use Rattle.transitions.specs.State.{Mode, turning, adding, subtracting, waiting, choosing, mode-of}
 
 -- ---- states by their numbers
 

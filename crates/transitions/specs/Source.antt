@@ -7,10 +7,9 @@ use lib.IntN.{ℤ, pos}
 use lib.ListN.{length, getD}
 use Rattle.algebra.specs.declared.Entry.{Entry}
 use Rattle.algebra.specs.Entry.{𝟘, entry}
-use Rattle.diagrams.specs.Diagram.{Ref, code, Store, node-at}
+use Rattle.diagrams.specs.Diagram.{Ref, code, Store, node-at, ref-of}
 use Rattle.diagrams.proofs.Unique.{Seen}
 use Rattle.transitions.specs.declared.State.{State}
-use Rattle.transitions.specs.State.{ref-of}
 use Rattle.transitions.specs.Next.{is-leaf}
 
 -- ---- the columns hold a store

@@ -6,12 +6,12 @@ use Prim.Native.Nat.{ℕ, suc, _+_, _*_, _<_, _≤_}
 use lib.ListN.{length, getD}
 use Rattle.algebra.specs.declared.Entry.{Entry}
 use Rattle.algebra.specs.Entry.{𝟘}
-use Rattle.diagrams.specs.Diagram.{Store, node-at, Both, From}
+use Rattle.diagrams.specs.Diagram.{Store, node-at, Both, From, ref-of}
 use Rattle.diagrams.proofs.Unique.{Closed}
 use Rattle.transitions.specs.declared.State.{State}
 use Rattle.transitions.specs.Plan.{Plan}
 use Rattle.transitions.specs.Source.{Refers, Readable}
-use Rattle.transitions.specs.State.{ref-of, Mode, turning, adding, subtracting, waiting, choosing, mode-of, top}
+use Rattle.transitions.specs.State.{Mode, turning, adding, subtracting, waiting, choosing, mode-of, top}
 use Rattle.transitions.specs.Next.{mode-code}
 
 -- ---- plans

@@ -1,8 +1,9 @@
 -- What a turn of the walk asks for and leaves: at the state's slot, before and after its calls. Definitions only.
 use mathlib.Core.Path.{_≡_}
-use mathlib.Core.Bool.{true, cond}
+use mathlib.Core.Bool.{cond}
+use mathlib.Core.Logic.{_⊎_}
 use mathlib.Core.List.{List}
-use Prim.Native.Nat.{ℕ, suc, _+_, _*_, _<_, _≤_}
+use Prim.Native.Nat.{ℕ, suc, _+_, _*_, _/_, _<_, _≤_}
 use lib.Dec.{eqb}
 use lib.IntN.{ℤ}
 use lib.ListN.{length, getD, set}
@@ -11,7 +12,7 @@ use Rattle.algebra.specs.declared.Bounded.{Bounded}
 use Rattle.algebra.specs.declared.Bounded.the-variants.{Within, Outside}
 use Rattle.algebra.specs.Width.{bounded}
 use Rattle.diagrams.specs.Diagram.{branch, ref-of, Store}
-use Rattle.diagrams.specs.UniqueTable.{nodes-in, NodeMade, values-in, ValueMade}
+use Rattle.diagrams.specs.UniqueTable.{nodes-in, NodesHeld, NodeMade, values-in, ValuesHeld, ValueMade}
 use Rattle.transitions.specs.declared.State.{State}
 use Rattle.transitions.specs.Plan.{Plan, plan-of}
 use Rattle.transitions.specs.Source.{SourceHeld, Reading-leaf}
@@ -30,20 +31,50 @@ tallied k new r tally = cond (eqb r FULL) (set tally 2 1) (cond (eqb r new) (set
 
 -- ---- the node over two answers
 
-module _ (plan level low high index tally : List ℕ) (lv l h r : ℕ) (level′ low′ high′ index′ tally′ : List ℕ) where
-  pub record Joined : Type 0 where
-    pub past : (getD tally 2 0 ≡ 0 → ⊥) → (r ≡ FULL) × (tally′ ≡ tally) × (level′ ≡ level) × (low′ ≡ low) × (high′ ≡ high) × (index′ ≡ index)
-    pub node-made : getD tally 2 0 ≡ 0 → NodeMade level low high index r level′ low′ high′ index′
-        (length level) (plan-of plan .node-heads) (branch lv (ref-of l) (ref-of h)) (nodes-in (getD tally 0 0) level low high)
-    pub counted : getD tally 2 0 ≡ 0 → tally′ ≡ tallied 0 (2 * getD tally 0 0 + 1) r tally
+module _ (plan level low high index tally : List ℕ) (lv l h : ℕ) where
+  -- while the walk builds, its nodes are held
+  abbrev pub JoinReady : Type 0
+  JoinReady = getD tally 2 0 ≡ 0 → NodesHeld (length level) (plan-of plan .node-heads) (nodes-in (getD tally 0 0) level low high) level low high index
+
+  module _ (level′ low′ high′ index′ tally′ : List ℕ) where
+    abbrev pub JoinUnchanged : Type 0
+    JoinUnchanged = (tally′ ≡ tally) × (level′ ≡ level) × (low′ ≡ low) × (high′ ≡ high) × (index′ ≡ index)
+
+    pub record Joined (r : ℕ) : Type 0 where
+      pub past : (getD tally 2 0 ≡ 0 → ⊥) → (r ≡ FULL) × JoinUnchanged
+      pub alike : getD tally 2 0 ≡ 0 → l ≡ h → (r ≡ l) × JoinUnchanged
+      pub apart : getD tally 2 0 ≡ 0 → (l ≡ h → ⊥) → (tally′ ≡ tallied 0 (2 * getD tally 0 0 + 1) r tally)
+          × NodeMade level low high index level′ low′ high′ index′
+          (length level) (plan-of plan .node-heads) (branch lv (ref-of l) (ref-of h)) (nodes-in (getD tally 0 0) level low high) r
+
+    -- with the computed table: the answer is kept for the state, unless a number lay outside the width
+    pub record Finished (memo : List ℕ) (σ : State) (memo′ : List ℕ) (r : ℕ) : Type 0 where
+      pub outside : (l ≡ OUT) ⊎ (h ≡ OUT) → (r ≡ OUT) × (memo′ ≡ memo) × JoinUnchanged
+      pub inside : (l ≡ OUT → ⊥) → (h ≡ OUT → ⊥) → Joined r × (memo′ ≡ noted (plan-of plan) memo σ r)
 
 -- ---- the value of a state with no question left
 
-module _ (plan : List ℕ) (terminals : List ℤ) (index tally : List ℕ) (e : Entry) (r : ℕ) (terminals′ : List ℤ) (index′ tally′ : List ℕ) where
-  pub record Placed : Type 0 where
-    pub past : (getD tally 2 0 ≡ 0 → ⊥) → (r ≡ FULL) × (tally′ ≡ tally) × (terminals′ ≡ terminals) × (index′ ≡ index)
-    pub value-made : getD tally 2 0 ≡ 0 → ValueMade terminals index r terminals′ index′ (plan-of plan .value-heads) e (values-in (getD tally 1 0) terminals)
-    pub counted : getD tally 2 0 ≡ 0 → tally′ ≡ tallied 1 (2 * getD tally 1 0) r tally
+module _ (plan : List ℕ) (terminals : List ℤ) (index tally : List ℕ) where
+  -- while the walk builds, its values are held
+  abbrev pub PlaceReady : Type 0
+  PlaceReady =
+      getD tally 2 0 ≡ 0 → ValuesHeld (length terminals / 4) (plan-of plan .value-heads) (values-in (getD tally 1 0) terminals) terminals index
+
+  module _ (terminals′ : List ℤ) (index′ tally′ : List ℕ) where
+    pub record Placed (e : Entry) (r : ℕ) : Type 0 where
+      pub past : (getD tally 2 0 ≡ 0 → ⊥) → (r ≡ FULL) × (tally′ ≡ tally) × (terminals′ ≡ terminals) × (index′ ≡ index)
+      pub made : getD tally 2 0 ≡ 0 → (tally′ ≡ tallied 1 (2 * getD tally 1 0) r tally)
+          × ValueMade terminals index terminals′ index′
+          (length terminals / 4) (plan-of plan .value-heads) e (values-in (getD tally 1 0) terminals) r
+
+    -- with the computed table
+    abbrev pub SettledBy : List ℕ → State → List ℕ → ℕ → Bounded → Type 0
+    SettledBy memo σ memo′ r (Within e) = Placed e r × (memo′ ≡ noted (plan-of plan) memo σ r)
+    SettledBy memo σ memo′ r Outside =
+        (r ≡ OUT) × (memo′ ≡ memo) × (tally′ ≡ set tally 2 2) × (terminals′ ≡ terminals) × (index′ ≡ index)
+
+    abbrev pub Settled : List (List ℤ) → List ℕ → State → List ℕ → ℕ → Type 0
+    Settled vals memo σ memo′ r = Reading-leaf vals σ (λ s. SettledBy memo σ memo′ r (bounded (plan-of plan .width) (leaf-entry s σ)))
 
 -- ---- a walk from a state
 

@@ -4,6 +4,13 @@ use algebra::Entry;
 use transitions::NODE_HEADS;
 use transitions::VALUE_HEADS;
 use transitions::WIDTH;
+ghost use mathlib.Core.List.{map};
+ghost use Prim.Native.Nat.{_/_};
+ghost use Rattle.transitions.specs.Plan.{plan-of};
+ghost use Rattle.transitions.specs.Source.{Holds-slot};
+ghost use Rattle.transitions.specs.Next.{numbered};
+ghost use Rattle.tables.specs.Table.{AtSlot};
+ghost use Rattle.turns.specs.Turn.{JoinReady, Joined, Finished, PlaceReady, Placed, Settled};
 
 // The product needs more room than there is.
 pub const FULL: u32 = 4294967295;
@@ -23,9 +30,15 @@ fn join(
     index: &mut [u32],
     tally: &mut [u32; 4],
 ) -> u32
+    requires { ⌜ JoinReady (now plan) (now level) (now low) (now high) (now index) (now tally) lv l h ⌝ }
+    ensures { λ r. ⌜ Joined (now (plan .entry)) (now (level .entry)) (now (low .entry)) (now (high .entry)) (now (index .entry)) (now (tally .entry)) lv l h
+        (now (level .exit)) (now (low .exit)) (now (high .exit)) (now (index .exit)) (now (tally .exit)) r ⌝ }
 {
     if tally[2] != 0 {
         return FULL;
+    }
+    if l == h {
+        return l;
     }
     let used = tally[0];
     let r = diagrams::make_node(level, low, high, index, plan[NODE_HEADS], used, lv, l, h);
@@ -56,6 +69,11 @@ pub fn finish(
     memo: &mut [u32],
     tally: &mut [u32; 4],
 ) -> u32
+    requires { ⌜ JoinReady (now plan) (now level) (now low) (now high) (now index) (now tally) lv l h ⌝ }
+    requires { ⌜ AtSlot (plan-of (now plan)) (now memo) at (numbered x y mode) ⌝ }
+    ensures { λ r. ⌜ Finished (now (plan .entry)) (now (level .entry)) (now (low .entry)) (now (high .entry)) (now (index .entry)) (now (tally .entry)) lv l h
+        (now (level .exit)) (now (low .exit)) (now (high .exit)) (now (index .exit)) (now (tally .exit))
+        (now (memo .entry)) (numbered x y mode) (now (memo .exit)) r ⌝ }
 {
     if l == OUT {
         return OUT;
@@ -68,54 +86,3 @@ pub fn finish(
     r
 }
 
-// A terminal, if the walk still builds.
-fn terminal(
-    plan: &[u32; 32],
-    e: Entry,
-    terminals: &mut [i32],
-    index: &mut [u32],
-    tally: &mut [u32; 4],
-) -> u32
-{
-    if tally[2] != 0 {
-        return FULL;
-    }
-    let used = tally[1];
-    let r = diagrams::make_value(terminals, index, plan[VALUE_HEADS], used, e);
-    if r == FULL {
-        tally[2] = 1;
-        return FULL;
-    }
-    if r == 2 * used {
-        tally[1] = used + 1;
-    }
-    r
-}
-
-// A state with no question left: its value, if it lies within the width, kept in the computed table.
-pub fn settle(
-    plan: &[u32; 32],
-    at: usize,
-    x: u32,
-    y: u32,
-    mode: u32,
-    values: &[&[i32]; 4],
-    terminals: &mut [i32],
-    index: &mut [u32],
-    memo: &mut [u32],
-    tally: &mut [u32; 4],
-) -> u32
-{
-    let b = transitions::leaf(values, x, y, mode, plan[WIDTH]);
-    match b {
-        Bounded::Within(e) => {
-            let r = terminal(plan, e, terminals, index, tally);
-            tables::note(memo, plan, at, x, y, mode, r);
-            r
-        }
-        Bounded::Outside => {
-            tally[2] = 2;
-            OUT
-        }
-    }
-}
