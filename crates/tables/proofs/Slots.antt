@@ -10,7 +10,7 @@ use native.Mathlib.Omega.{arith}
 use lib.Arith.{digits-lt, digits-div, digits-mod}
 use lib.Dec.{eqb, lit<}
 use lib.ListN.{length}
-use borrow.Author.Tests.{eqb-true, eq-eqb, ne-eqb, lt-ltb}
+use borrow.Author.Tests.{eqb-true, eqb-false, eq-eqb, ne-eqb, lt-ltb}
 use Rattle.transitions.specs.declared.State.{State}
 use Rattle.transitions.specs.Plan.{Plan}
 use Rattle.tables.specs.Table.{region, bucket, slot-of, table-end, TableSizes, InTable, AtSlot}
@@ -55,12 +55,14 @@ place-of plan σ =
     by-tests (eqb (σ .mode) (plan .phases .zero)) (eqb (σ .mode) (plan .phases .one)) (eqb (σ .mode) 16) refl refl refl
   where
     by-tests : (p q w : Bool) → eqb (σ .mode) (plan .phases .zero) ≡ p → eqb (σ .mode) (plan .phases .one) ≡ q → eqb (σ .mode) 16 ≡ w → Place plan σ
-    by-tests true q w e f g = alone 0 (lit< tt) (eqb-true _ _ e) (slot-alone plan σ 0 (lit< tt) (simp e))
-    by-tests false true w e f g = alone 1 (lit< tt) (eqb-true _ _ f) (slot-alone plan σ 1 (lit< tt) (simp (e, f)))
-    by-tests false false true e f g = alone 2 (lit< tt) (eqb-true _ _ g) (slot-alone plan σ 2 (lit< tt) (simp (e, f, g)))
-    by-tests false false false e f g = shared (slot-shared plan σ (simp (e, f, g)))
+    by-tests true q w e f g = let is = eqb-true _ _ e in alone 0 (lit< tt) is (slot-alone plan σ 0 (lit< tt) (region-zero plan _ is))
+    by-tests false true w e f g =
+        let is = eqb-true _ _ f in alone 1 (lit< tt) is (slot-alone plan σ 1 (lit< tt) (region-one plan _ (eqb-false _ _ e) is))
+    by-tests false false true e f g =
+        let is = eqb-true _ _ g in alone 2 (lit< tt) is (slot-alone plan σ 2 (lit< tt) (region-waiting plan _ (eqb-false _ _ e) (eqb-false _ _ f) is))
+    by-tests false false false e f g = shared (slot-shared plan σ (region-shared plan _ (eqb-false _ _ e) (eqb-false _ _ f) (eqb-false _ _ g)))
 
--- of 65,536 shares each bucket has as many as the others, so none is past the last
+-- a number below 65,536, scaled from 65,536 to the slots, is below the slots
 pub share-limit : (mixed slots : ℕ) → 1 ≤ slots → mixed % 65536 * slots < slots * 65536
 share-limit mixed slots some = omega (arith, digits-lt (mod-lt mixed {m = 65536} (lit< tt)) some)
 
