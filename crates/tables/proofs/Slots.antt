@@ -1,24 +1,24 @@
 -- The slots of the computed table: where each lies, and that a number of a region belongs to one state.
 -- Assumes nothing.
-use mathlib.Core.Path.{_≡_, refl, sym, _∙_, ap, ap₂, _≡⟨_⟩_, _∎}
+use mathlib.Core.Path.{_≡_, refl, sym, _∙_, ap}
 use mathlib.Core.Bool.{Bool, true, false}
 use mathlib.Core.List.{List}
 use mathlib.Core.Logic.{_≢_}
 use Prim.Native.Nat.{ℕ, zero, suc, _+_, _*_, _/_, _%_, _<_, _≤_}
-use native.Mathlib.Nat.{mod-lt, div-lt-iff-lt-mul, zero-mul}
+use native.Mathlib.Nat.{mod-lt, div-lt-iff-lt-mul}
 use native.Mathlib.Omega.{arith}
 use lib.Arith.{digits-lt, digits-div, digits-mod}
 use lib.Dec.{eqb, lit<}
 use lib.ListN.{length}
-use borrow.Author.Tests.{eqb-true, eq-eqb, ne-eqb, lt-ltb}
+use borrow.Author.Tests.{eqb-true, eqb-false, eq-eqb, ne-eqb, lt-ltb}
 use Rattle.transitions.specs.declared.State.{State}
 use Rattle.transitions.specs.Plan.{Plan}
-use Rattle.tables.specs.Table.{region, bucket, slot-of, table-end, TableSizes, TableFits, InTable, AtSlot}
+use Rattle.tables.specs.Table.{region, bucket, slot-of, table-end, TableSizes, InTable, AtSlot}
 
 -- ---- a mode's region
 
 -- the mode that region k < 3 is for
-abbrev pub mode-of-region : Plan → ℕ → ℕ
+abbrev mode-of-region : Plan → ℕ → ℕ
 mode-of-region plan zero = plan .phases .zero
 mode-of-region plan (suc zero) = plan .phases .one
 mode-of-region plan (suc (suc k)) = 16
@@ -46,21 +46,23 @@ unfolding slot-of
 slot-shared plan σ e = rw e
 
 -- a state has a number of its mode's region, or an entry
-pub data Place (plan : Plan) (σ : State) : Type 0 where
+data Place (plan : Plan) (σ : State) : Type 0 where
   alone : (k : ℕ) → k < 3 → σ .mode ≡ mode-of-region plan k → slot-of plan σ ≡ k * plan .span + σ .x → Place plan σ
   shared : slot-of plan σ ≡ 3 * plan .span + 4 * bucket (plan .slots) (σ .x) (σ .y) (σ .mode) → Place plan σ
 
-pub place-of : (plan : Plan) (σ : State) → Place plan σ
+place-of : (plan : Plan) (σ : State) → Place plan σ
 place-of plan σ =
     by-tests (eqb (σ .mode) (plan .phases .zero)) (eqb (σ .mode) (plan .phases .one)) (eqb (σ .mode) 16) refl refl refl
   where
     by-tests : (p q w : Bool) → eqb (σ .mode) (plan .phases .zero) ≡ p → eqb (σ .mode) (plan .phases .one) ≡ q → eqb (σ .mode) 16 ≡ w → Place plan σ
-    by-tests true q w e f g = alone 0 (lit< tt) (eqb-true _ _ e) (slot-alone plan σ 0 (lit< tt) (simp e))
-    by-tests false true w e f g = alone 1 (lit< tt) (eqb-true _ _ f) (slot-alone plan σ 1 (lit< tt) (simp (e, f)))
-    by-tests false false true e f g = alone 2 (lit< tt) (eqb-true _ _ g) (slot-alone plan σ 2 (lit< tt) (simp (e, f, g)))
-    by-tests false false false e f g = shared (slot-shared plan σ (simp (e, f, g)))
+    by-tests true q w e f g = let is = eqb-true _ _ e in alone 0 (lit< tt) is (slot-alone plan σ 0 (lit< tt) (region-zero plan _ is))
+    by-tests false true w e f g =
+        let is = eqb-true _ _ f in alone 1 (lit< tt) is (slot-alone plan σ 1 (lit< tt) (region-one plan _ (eqb-false _ _ e) is))
+    by-tests false false true e f g =
+        let is = eqb-true _ _ g in alone 2 (lit< tt) is (slot-alone plan σ 2 (lit< tt) (region-waiting plan _ (eqb-false _ _ e) (eqb-false _ _ f) is))
+    by-tests false false false e f g = shared (slot-shared plan σ (region-shared plan _ (eqb-false _ _ e) (eqb-false _ _ f) (eqb-false _ _ g)))
 
--- of 65,536 shares each bucket has as many as the others, so none is past the last
+-- a number below 65,536, scaled from 65,536 to the slots, is below the slots
 pub share-limit : (mixed slots : ℕ) → 1 ≤ slots → mixed % 65536 * slots < slots * 65536
 share-limit mixed slots some = omega (arith, digits-lt (mod-lt mixed {m = 65536} (lit< tt)) some)
 
@@ -70,7 +72,7 @@ bucket-limit slots x y mode some = div-lt-iff-lt-mul (lit< tt) .1 (share-limit _
 -- ---- where it lies
 
 -- the numbers of the regions
-pub alone-below : (plan : Plan) (σ : State) (k : ℕ) → σ .x < plan .span → k < 3 → slot-of plan σ ≡ k * plan .span + σ .x → slot-of plan σ < 3 * plan .span
+alone-below : (plan : Plan) (σ : State) (k : ℕ) → σ .x < plan .span → k < 3 → slot-of plan σ ≡ k * plan .span + σ .x → slot-of plan σ < 3 * plan .span
 alone-below plan σ k in-span lt at = rw at (digits-lt lt in-span)
 
 -- the entries after them
@@ -92,7 +94,7 @@ at-room {plan} {memo} {at} {σ} s past = omega (arith, s .table .room, s .slot, 
 -- ---- a number of a region belongs to one state
 
 -- a region's mode makes use of one reference
-pub alone-once : (plan : Plan) (σ : State) (k : ℕ) → TableSizes plan → InTable plan σ → σ .mode ≡ mode-of-region plan k → σ .y ≡ σ .x
+alone-once : (plan : Plan) (σ : State) (k : ℕ) → TableSizes plan → InTable plan σ → σ .mode ≡ mode-of-region plan k → σ .y ≡ σ .x
 alone-once plan σ zero sizes place is = place .turning (rw is (sizes .phase-zero))
 alone-once plan σ (suc zero) sizes place is = place .turning (rw is (sizes .phase-one))
 alone-once plan σ (suc (suc k)) sizes place is = place .waiting (omega arith) (omega arith)

@@ -1,10 +1,10 @@
 -- The computed table: what noting an answer changes, and that every answer recalled is one that was noted.
 -- Assumes nothing.
-use mathlib.Core.Path.{_≡_, refl, sym, _∙_, ap, ap₂, _≡⟨_⟩_, _∎}
+use mathlib.Core.Path.{_≡_, refl, sym, _∙_, ap, _≡⟨_⟩_, _∎}
 use mathlib.Core.Bool.{Bool, true, false, cond, _&&_}
 use mathlib.Core.List.{List}
-use mathlib.Core.Logic.{_≢_}
-use Prim.Native.Nat.{ℕ, zero, suc, _+_, _-_, _*_, _<_, _≤_}
+use mathlib.Core.Logic.{_≢_, _⊎_, inl, inr}
+use Prim.Native.Nat.{ℕ, _+_, _-_, _*_, _<_, _≤_}
 use native.Mathlib.Omega.{arith}
 use lib.Dec.{eqb, ltb, lit<}
 use lib.ListN.{length, getD, set, drop, replicate, length-append, length-replicate, length-drop, length-set, getD-replicate, List·getD-append}
@@ -14,7 +14,7 @@ use Rattle.transitions.specs.declared.State.{State}
 use Rattle.transitions.specs.Plan.{Plan}
 use Rattle.tables.specs.Table.{slot-of, table-end, unsettled, told, entered, recalled-at, recalled, noted-at, noted, cleared}
 use Rattle.tables.specs.Table.{TableSizes, TableFits, InTable, AtSlot, AllRight}
-use Rattle.tables.proofs.Slots.{Place, alone, shared, place-of, alone-below, alone-same, entry-slot, entry-room, same-state}
+use Rattle.tables.proofs.Slots.{alone-same, entry-slot, entry-room, same-state}
 
 -- ---- clearing
 
@@ -26,16 +26,20 @@ cleared-zero to memo i lt = List·getD-append (replicate to 0) (drop to memo) 0 
 
 -- ---- recalling
 
-pub recalled-as : {plan : Plan} {memo : List ℕ} {at : ℕ} {σ : State} → AtSlot plan memo at σ → recalled-at plan memo at σ ≡ recalled plan memo σ
-unfolding recalled
-recalled-as {plan} {memo} {at} {σ} s = ap (λ (i : ℕ). recalled-at plan memo i σ) (s .slot)
+-- a number of a region, or an entry
+side-of : (plan : Plan) (σ : State) → (slot-of plan σ < 3 * plan .span) ⊎ (3 * plan .span ≤ slot-of plan σ)
+side-of plan σ = by-test (ltb (slot-of plan σ) (3 * plan .span)) refl
+  where
+    by-test : (b : Bool) → ltb (slot-of plan σ) (3 * plan .span) ≡ b → (slot-of plan σ < 3 * plan .span) ⊎ (3 * plan .span ≤ slot-of plan σ)
+    by-test true e = inl (ltb-true _ _ e)
+    by-test false e = inr (ltb-false _ _ e)
 
-pub recalled-number : (plan : Plan) (memo : List ℕ) (σ : State) → slot-of plan σ < 3 * plan .span →
+recalled-number : (plan : Plan) (memo : List ℕ) (σ : State) → slot-of plan σ < 3 * plan .span →
     recalled plan memo σ ≡ told (getD memo (slot-of plan σ) 0)
 unfolding recalled
 recalled-number plan memo σ below = rw (lt-ltb _ _ below)
 
-pub recalled-entry : (plan : Plan) (memo : List ℕ) (σ : State) → 3 * plan .span ≤ slot-of plan σ →
+recalled-entry : (plan : Plan) (memo : List ℕ) (σ : State) → 3 * plan .span ≤ slot-of plan σ →
     recalled plan memo σ ≡ cond (entered memo (slot-of plan σ) σ) (getD memo (slot-of plan σ + 3) 0) unsettled
 unfolding recalled
 recalled-entry plan memo σ past = rw (le-ltb _ _ past)
@@ -43,20 +47,44 @@ recalled-entry plan memo σ past = rw (le-ltb _ _ past)
 -- in a table of zeros nothing is known
 pub recalled-zeros : (plan : Plan) (memo : List ℕ) (σ : State) → TableSizes plan → InTable plan σ →
     ((i : ℕ) → i < table-end plan → getD memo i 0 ≡ 0) → recalled plan memo σ ≡ unsettled
-recalled-zeros plan memo σ sizes place zeros = by-test (ltb (slot-of plan σ) (3 * plan .span)) refl
+recalled-zeros plan memo σ sizes place zeros = by-side (side-of plan σ)
   where
-    by-test : (b : Bool) → ltb (slot-of plan σ) (3 * plan .span) ≡ b → recalled plan memo σ ≡ unsettled
-    by-test true e =
-        let below = ltb-true _ _ e in
-        recalled-number plan memo σ below ∙ ap told (zeros (slot-of plan σ) (omega arith))
-    by-test false e =
-        let past = ltb-false _ _ e in
+    by-side : (slot-of plan σ < 3 * plan .span) ⊎ (3 * plan .span ≤ slot-of plan σ) → recalled plan memo σ ≡ unsettled
+    by-side (inl below) = recalled-number plan memo σ below ∙ ap told (zeros (slot-of plan σ) (omega arith))
+    by-side (inr past) =
         let no-mode : eqb 0 (σ .mode + 1) ≡ false = ne-eqb 0 (σ .mode + 1) (omega arith) in
         recalled-entry plan memo σ past ∙ rw (zeros (slot-of plan σ + 2) (omega (arith, entry-room plan σ sizes place past)), no-mode)
 
+-- ---- a look at a state's slot, test by test
+
+module _ {plan : Plan} {memo : List ℕ} {at : ℕ} {σ : State} (s : AtSlot plan memo at σ) where
+  recalled-as : recalled-at plan memo at σ ≡ recalled plan memo σ
+  unfolding recalled
+  recalled-as = ap (λ (i : ℕ). recalled-at plan memo i σ) (s .slot)
+
+  pub number-none : at < 3 * plan .span → getD memo at 0 ≡ 0 → unsettled ≡ recalled plan memo σ
+  number-none below none = rw (← recalled-as, lt-ltb _ _ below, eq-eqb _ _ none)
+
+  pub number-told : at < 3 * plan .span → (getD memo at 0 ≡ 0 → ⊥) → getD memo at 0 - 1 ≡ recalled plan memo σ
+  number-told below some = rw (← recalled-as, lt-ltb _ _ below, ne-eqb _ _ some)
+
+  pub entry-of-mode : 3 * plan .span ≤ at → (getD memo (at + 2) 0 ≡ σ .mode + 1 → ⊥) → unsettled ≡ recalled plan memo σ
+  entry-of-mode past other = rw (← recalled-as, le-ltb _ _ past, ne-eqb _ _ other)
+
+  pub entry-of-x : 3 * plan .span ≤ at → getD memo (at + 2) 0 ≡ σ .mode + 1 → (getD memo at 0 ≡ σ .x → ⊥) → unsettled ≡ recalled plan memo σ
+  entry-of-x past mode other = rw (← recalled-as, le-ltb _ _ past, eq-eqb _ _ mode, ne-eqb _ _ other)
+
+  pub entry-of-y : 3 * plan .span ≤ at → getD memo (at + 2) 0 ≡ σ .mode + 1 → getD memo at 0 ≡ σ .x → (getD memo (at + 1) 0 ≡ σ .y → ⊥) →
+      unsettled ≡ recalled plan memo σ
+  entry-of-y past mode x other = rw (← recalled-as, le-ltb _ _ past, eq-eqb _ _ mode, eq-eqb _ _ x, ne-eqb _ _ other)
+
+  pub entry-found : 3 * plan .span ≤ at → getD memo (at + 2) 0 ≡ σ .mode + 1 → getD memo at 0 ≡ σ .x → getD memo (at + 1) 0 ≡ σ .y →
+      getD memo (at + 3) 0 ≡ recalled plan memo σ
+  entry-found past mode x y = rw (← recalled-as, le-ltb _ _ past, eq-eqb _ _ mode, eq-eqb _ _ x, eq-eqb _ _ y)
+
 -- ---- a state's own numbers
 
-pub data Owns (plan : Plan) (σ : State) (i : ℕ) : Type 0 where
+data Owns (plan : Plan) (σ : State) (i : ℕ) : Type 0 where
   number : slot-of plan σ < 3 * plan .span → i ≡ slot-of plan σ → Owns plan σ i
   word : 3 * plan .span ≤ slot-of plan σ → slot-of plan σ ≤ i → i < slot-of plan σ + 4 → Owns plan σ i
 
@@ -72,14 +100,11 @@ owns-apart plan σ τ i in-σ in-τ apart (word past from to) (word past-τ from
 -- what is recalled rests on them alone
 recalled-by-own : (plan : Plan) (memo memo′ : List ℕ) (τ : State) → ((i : ℕ) → Owns plan τ i → getD memo i 0 ≡ getD memo′ i 0) →
     recalled plan memo τ ≡ recalled plan memo′ τ
-recalled-by-own plan memo memo′ τ agree = by-test (ltb (slot-of plan τ) (3 * plan .span)) refl
+recalled-by-own plan memo memo′ τ agree = by-side (side-of plan τ)
   where
-    by-test : (b : Bool) → ltb (slot-of plan τ) (3 * plan .span) ≡ b → recalled plan memo τ ≡ recalled plan memo′ τ
-    by-test true e =
-        let below = ltb-true _ _ e in
-        recalled-number plan memo τ below ∙ ap told (agree _ (number below refl)) ∙ sym (recalled-number plan memo′ τ below)
-    by-test false e =
-        let past = ltb-false _ _ e in
+    by-side : (slot-of plan τ < 3 * plan .span) ⊎ (3 * plan .span ≤ slot-of plan τ) → recalled plan memo τ ≡ recalled plan memo′ τ
+    by-side (inl below) = recalled-number plan memo τ below ∙ ap told (agree _ (number below refl)) ∙ sym (recalled-number plan memo′ τ below)
+    by-side (inr past) =
         let at = slot-of plan τ in
         let x = agree at (word past (omega arith) (omega arith)) in
         let y = agree (at + 1) (word past (omega arith) (omega arith)) in
@@ -94,16 +119,16 @@ abbrev written : List ℕ → ℕ → State → ℕ → List ℕ
 written memo at σ answer = set (set (set (set memo at (σ .x)) (at + 1) (σ .y)) (at + 2) (σ .mode + 1)) (at + 3) answer
 
 -- the three ways of noting
-data Noted (plan : Plan) (memo : List ℕ) (σ : State) (answer : ℕ) : Type 0 where
-  in-number : slot-of plan σ < 3 * plan .span → noted plan memo σ answer ≡ set memo (slot-of plan σ) (answer + 1) → Noted plan memo σ answer
-  left-out : noted plan memo σ answer ≡ memo → Noted plan memo σ answer
-  in-entry : 3 * plan .span ≤ slot-of plan σ → noted plan memo σ answer ≡ written memo (slot-of plan σ) σ answer → Noted plan memo σ answer
+data Noting (plan : Plan) (memo : List ℕ) (σ : State) (answer : ℕ) : Type 0 where
+  in-number : slot-of plan σ < 3 * plan .span → noted plan memo σ answer ≡ set memo (slot-of plan σ) (answer + 1) → Noting plan memo σ answer
+  left-out : noted plan memo σ answer ≡ memo → Noting plan memo σ answer
+  in-entry : 3 * plan .span ≤ slot-of plan σ → noted plan memo σ answer ≡ written memo (slot-of plan σ) σ answer → Noting plan memo σ answer
 
-noted-by : (plan : Plan) (memo : List ℕ) (σ : State) (answer : ℕ) → Noted plan memo σ answer
+noted-by : (plan : Plan) (memo : List ℕ) (σ : State) (answer : ℕ) → Noting plan memo σ answer
 unfolding noted
 noted-by plan memo σ answer = by-tests (ltb (slot-of plan σ) (3 * plan .span)) (ltb answer 4294967295) refl refl
   where
-    by-tests : (p q : Bool) → ltb (slot-of plan σ) (3 * plan .span) ≡ p → ltb answer 4294967295 ≡ q → Noted plan memo σ answer
+    by-tests : (p q : Bool) → ltb (slot-of plan σ) (3 * plan .span) ≡ p → ltb answer 4294967295 ≡ q → Noting plan memo σ answer
     by-tests true true e f = in-number (ltb-true _ _ e) (rw (e, f))
     by-tests true false e f = left-out (rw (e, f))
     by-tests false q e f = in-entry (ltb-false _ _ e) (rw e)
@@ -111,21 +136,31 @@ noted-by plan memo σ answer = by-tests (ltb (slot-of plan σ) (3 * plan .span))
 pub length-noted : (plan : Plan) (memo : List ℕ) (σ : State) (answer : ℕ) → length (noted plan memo σ answer) ≡ length memo
 length-noted plan memo σ answer = by-way (noted-by plan memo σ answer)
   where
-    by-way : Noted plan memo σ answer → length (noted plan memo σ answer) ≡ length memo
+    by-way : Noting plan memo σ answer → length (noted plan memo σ answer) ≡ length memo
     by-way (in-number below is) = ap length is ∙ simp length-set
     by-way (left-out is) = ap length is
     by-way (in-entry past is) = ap length is ∙ simp length-set
 
-pub noted-as : {plan : Plan} {memo : List ℕ} {at : ℕ} {σ : State} → AtSlot plan memo at σ → (answer : ℕ) →
-    noted-at plan memo at σ answer ≡ noted plan memo σ answer
-unfolding noted
-noted-as {plan} {memo} {at} {σ} s answer = ap (λ (i : ℕ). noted-at plan memo i σ answer) (s .slot)
+-- at a state's slot, test by test
+module _ {plan : Plan} {memo : List ℕ} {at : ℕ} {σ : State} (s : AtSlot plan memo at σ) (answer : ℕ) where
+  noted-as : noted-at plan memo at σ answer ≡ noted plan memo σ answer
+  unfolding noted
+  noted-as = ap (λ (i : ℕ). noted-at plan memo i σ answer) (s .slot)
+
+  pub number-noted : at < 3 * plan .span → answer < 4294967295 → set memo at (answer + 1) ≡ noted plan memo σ answer
+  number-noted below small = rw (← noted-as, lt-ltb _ _ below, lt-ltb _ _ small)
+
+  pub largest-left-out : at < 3 * plan .span → 4294967295 ≤ answer → memo ≡ noted plan memo σ answer
+  largest-left-out below large = rw (← noted-as, lt-ltb _ _ below, le-ltb _ _ large)
+
+  pub entry-noted : 3 * plan .span ≤ at → written memo at σ answer ≡ noted plan memo σ answer
+  entry-noted past = rw (← noted-as, le-ltb _ _ past)
 
 -- only the state's own numbers change
 noted-other : (plan : Plan) (memo : List ℕ) (σ : State) (answer i : ℕ) → (Owns plan σ i → ⊥) → getD (noted plan memo σ answer) i 0 ≡ getD memo i 0
 noted-other plan memo σ answer i strange = by-way (noted-by plan memo σ answer)
   where
-    by-way : Noted plan memo σ answer → getD (noted plan memo σ answer) i 0 ≡ getD memo i 0
+    by-way : Noting plan memo σ answer → getD (noted plan memo σ answer) i 0 ≡ getD memo i 0
     by-way (in-number below is) = ap (λ (l : List ℕ). getD l i 0) is ∙ getD-set-other memo (slot-of plan σ) i (answer + 1) 0 (λ at. strange (number below at))
     by-way (left-out is) = ap (λ (l : List ℕ). getD l i 0) is
     by-way (in-entry past is) =
@@ -164,10 +199,10 @@ module _ (memo : List ℕ) (at : ℕ) (σ : State) (answer : ℕ) (room : at + 4
 -- ---- recalling after noting
 
 -- what is recalled of τ after an answer was noted for σ: nothing, what was recalled before, or that answer if τ is σ
-pub data Recalled (plan : Plan) (memo : List ℕ) (σ : State) (answer : ℕ) (τ : State) : Type 0 where
-  lost : recalled plan (noted plan memo σ answer) τ ≡ unsettled → Recalled plan memo σ answer τ
-  kept : recalled plan (noted plan memo σ answer) τ ≡ recalled plan memo τ → Recalled plan memo σ answer τ
-  fresh : τ ≡ σ → recalled plan (noted plan memo σ answer) τ ≡ answer → Recalled plan memo σ answer τ
+pub data AfterNoting (plan : Plan) (memo : List ℕ) (σ : State) (answer : ℕ) (τ : State) : Type 0 where
+  lost : recalled plan (noted plan memo σ answer) τ ≡ unsettled → AfterNoting plan memo σ answer τ
+  kept : recalled plan (noted plan memo σ answer) τ ≡ recalled plan memo τ → AfterNoting plan memo σ answer τ
+  fresh : τ ≡ σ → recalled plan (noted plan memo σ answer) τ ≡ answer → AfterNoting plan memo σ answer τ
 
 told-more : (answer : ℕ) → told (answer + 1) ≡ answer
 told-more answer = rw (ne-eqb (answer + 1) 0 (omega arith)) (omega arith)
@@ -175,7 +210,8 @@ told-more answer = rw (ne-eqb (answer + 1) 0 (omega arith)) (omega arith)
 module _ (plan : Plan) (memo : List ℕ) (σ τ : State) (answer : ℕ) (fits : TableFits plan memo) (in-σ : InTable plan σ) (in-τ : InTable plan τ) where
   recalled-apart : slot-of plan τ ≢ slot-of plan σ → recalled plan (noted plan memo σ answer) τ ≡ recalled plan memo τ
   recalled-apart apart =
-      recalled-by-own plan (noted plan memo σ answer) memo τ (λ i own. noted-other plan memo σ answer i (λ own-σ. owns-apart plan σ τ i in-σ in-τ apart own-σ own))
+      recalled-by-own plan (noted plan memo σ answer) memo τ
+      (λ i own. noted-other plan memo σ answer i (λ own-σ. owns-apart plan σ τ i in-σ in-τ apart own-σ own))
 
   number-recalled : slot-of plan τ ≡ slot-of plan σ → slot-of plan σ < 3 * plan .span → recalled plan (set memo (slot-of plan σ) (answer + 1)) τ ≡ answer
   number-recalled same below =
@@ -199,7 +235,7 @@ module _ (plan : Plan) (memo : List ℕ) (σ τ : State) (answer : ℕ) (fits : 
       recalled-entry plan (written memo at σ answer) τ (rw same past) ∙
       rw (same, written-x memo at σ answer room, written-y memo at σ answer room, written-mode memo at σ answer room, written-answer memo at σ answer room)
 
-  recalled-same : slot-of plan τ ≡ slot-of plan σ → Noted plan memo σ answer → Recalled plan memo σ answer τ
+  recalled-same : slot-of plan τ ≡ slot-of plan σ → Noting plan memo σ answer → AfterNoting plan memo σ answer τ
   recalled-same same (in-number below is) =
       fresh (alone-same plan σ τ (fits .sizes) in-σ in-τ below same) (ap (λ (l : List ℕ). recalled plan l τ) is ∙ number-recalled same below)
   recalled-same same (left-out is) = kept (ap (λ (l : List ℕ). recalled plan l τ) is)
@@ -208,7 +244,7 @@ module _ (plan : Plan) (memo : List ℕ) (σ τ : State) (answer : ℕ) (fits : 
       now-is : recalled plan (noted plan memo σ answer) τ ≡ cond (eqb (σ .mode + 1) (τ .mode + 1) && (eqb (σ .x) (τ .x) && eqb (σ .y) (τ .y))) answer unsettled
       now-is = ap (λ (l : List ℕ). recalled plan l τ) is ∙ entry-recalled same past
 
-      by-tests : (p q r : Bool) → eqb (σ .mode + 1) (τ .mode + 1) ≡ p → eqb (σ .x) (τ .x) ≡ q → eqb (σ .y) (τ .y) ≡ r → Recalled plan memo σ answer τ
+      by-tests : (p q r : Bool) → eqb (σ .mode + 1) (τ .mode + 1) ≡ p → eqb (σ .x) (τ .x) ≡ q → eqb (σ .y) (τ .y) ≡ r → AfterNoting plan memo σ answer τ
       by-tests false q r e f g = lost (now-is ∙ rw e)
       by-tests true false r e f g = lost (now-is ∙ rw (e, f))
       by-tests true true false e f g = lost (now-is ∙ rw (e, f, g))
@@ -216,10 +252,10 @@ module _ (plan : Plan) (memo : List ℕ) (σ τ : State) (answer : ℕ) (fits : 
           let modes : σ .mode + 1 ≡ τ .mode + 1 = eqb-true _ _ e in
           fresh (same-state (sym (eqb-true _ _ f)) (sym (eqb-true _ _ g)) (omega arith)) (now-is ∙ rw (e, f, g))
 
-  pub recalled-noted : Recalled plan memo σ answer τ
+  pub recalled-noted : AfterNoting plan memo σ answer τ
   recalled-noted = by-test (eqb (slot-of plan τ) (slot-of plan σ)) refl
     where
-      by-test : (b : Bool) → eqb (slot-of plan τ) (slot-of plan σ) ≡ b → Recalled plan memo σ answer τ
+      by-test : (b : Bool) → eqb (slot-of plan τ) (slot-of plan σ) ≡ b → AfterNoting plan memo σ answer τ
       by-test true e = recalled-same (eqb-true _ _ e) (noted-by plan memo σ answer)
       by-test false e = kept (recalled-apart (eqb-false _ _ e))
 
@@ -237,7 +273,7 @@ allRight-noted Right plan memo σ answer fits in-σ known found = record {
   right = λ τ in-τ settled. by-case τ in-τ settled (recalled-noted plan memo σ τ answer fits in-σ in-τ);
 }
   where
-    by-case : (τ : State) → InTable plan τ → recalled plan (noted plan memo σ answer) τ ≢ unsettled → Recalled plan memo σ answer τ →
+    by-case : (τ : State) → InTable plan τ → recalled plan (noted plan memo σ answer) τ ≢ unsettled → AfterNoting plan memo σ answer τ →
         Right τ (recalled plan (noted plan memo σ answer) τ)
     by-case τ in-τ settled (lost is) = absurd (settled is)
     by-case τ in-τ settled (kept is) = rw is (known .right τ in-τ (λ un. settled (is ∙ un)))
@@ -249,5 +285,8 @@ allRight-weaken Right Right′ plan memo weaken known = record { right = λ σ i
 
 -- ---- the table goes on fitting
 
-pub fits-noted : (plan : Plan) (memo : List ℕ) (σ : State) (answer : ℕ) → TableFits plan memo → TableFits plan (noted plan memo σ answer)
-fits-noted plan memo σ answer fits = record { sizes = fits .sizes; room = rw (length-noted plan memo σ answer) (fits .room) }
+pub fits-length : {plan : Plan} {memo memo′ : List ℕ} → length memo′ ≡ length memo → TableFits plan memo → TableFits plan memo′
+fits-length same fits = record { sizes = fits .sizes; room = rw same (fits .room) }
+
+pub fits-noted : {plan : Plan} {memo : List ℕ} (σ : State) (answer : ℕ) → TableFits plan memo → TableFits plan (noted plan memo σ answer)
+fits-noted {plan} {memo} σ answer fits = fits-length (length-noted plan memo σ answer) fits

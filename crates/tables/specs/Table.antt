@@ -1,5 +1,5 @@
 -- The computed table of a step's walk: which slot a state has, what is recalled there, what noting an answer changes.
--- Definitions only. The paper knows no such table: no result rests on what it holds, so nothing here is to be believed.
+-- Definitions only. The paper knows no such table: it spares a walk that was made before, and what a step makes is the same without it.
 use mathlib.Core.Bool.{Bool, cond, _&&_}
 use mathlib.Core.List.{List, _++_}
 use mathlib.Core.Logic.{_≢_}

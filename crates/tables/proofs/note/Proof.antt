@@ -3,9 +3,8 @@ use Prim.Native.Nat.{_+_, _≤_}
 use native.Mathlib.Omega.{arith}
 use lib.ListN.{length, length-set}
 use borrow.Author.Needs.{needs}
-use borrow.Author.Tests.{lt-ltb, le-ltb}
 use Rattle.tables.proofs.Slots.{at-room}
-use Rattle.tables.proofs.Tables.{noted-as}
+use Rattle.tables.proofs.Tables.{number-noted, largest-left-out, entry-noted}
 use Rattle.tables.proofs.note.Statement.{statement}
 use Rattle.tables.proofs.note.Tie as tie
 
@@ -35,10 +34,10 @@ same-length : tie.Need-same-length
 same-length c = search needs
 
 returns : tie.Need-returns
-returns c = rw (← (noted-as (c .before .before .before .pre) (c .before .before .before .args .answer)), lt-ltb _ _ (c .before .if1 .taken), lt-ltb _ _ (c .if2 .taken))
+returns c = search (number-noted, needs)
 
 returns-2 : tie.Need-returns-2
-returns-2 c = rw (← (noted-as (c .before .before .before .pre) (c .before .before .before .args .answer)), lt-ltb _ _ (c .before .if1 .taken), le-ltb _ _ (c .if2 .left))
+returns-2 c = search (largest-left-out, needs)
 
 mul-memo-2 : tie.Need-mul-memo-2
 mul-memo-2 c = omega (arith, room c)
@@ -80,7 +79,7 @@ same-length-2 : tie.Need-same-length-2
 same-length-2 c = search needs
 
 returns-3 : tie.Need-returns-3
-returns-3 c = rw (← (noted-as (c .before .before .pre) (c .before .before .args .answer)), le-ltb _ _ (c .if1 .left))
+returns-3 c = entry-noted (c .before .before .pre) (c .before .before .args .answer) (c .if1 .left)
 
 pub note-spec : {M : Type 1} → statement M
 note-spec =

@@ -1,12 +1,10 @@
 -- `tables::recall` meets its contract: an entry lies in the table, and each way out is a case of the definition. Assumes nothing.
-use mathlib.Core.Path.{sym, _∙_}
 use Prim.Native.Nat.{_+_, _≤_}
 use native.Mathlib.Omega.{arith}
 use lib.ListN.{length}
 use borrow.Author.Needs.{needs}
-use borrow.Author.Tests.{lt-ltb, le-ltb, eq-eqb, ne-eqb}
 use Rattle.tables.proofs.Slots.{at-room}
-use Rattle.tables.proofs.Tables.{recalled-as}
+use Rattle.tables.proofs.Tables.{number-none, number-told, entry-of-mode, entry-of-x, entry-of-y, entry-found}
 use Rattle.tables.proofs.recall.Statement.{statement}
 use Rattle.tables.proofs.recall.Tie as tie
 
@@ -30,13 +28,13 @@ shared-slice-read-kept : tie.Need-shared-slice-read-kept
 shared-slice-read-kept c = search needs
 
 returns : tie.Need-returns
-returns c = rw (← (recalled-as (c .before .before .before .before .pre)), lt-ltb _ _ (c .before .before .if1 .taken), eq-eqb _ _ (c .if2 .taken))
+returns c = search (number-none, needs)
 
 sub-result : tie.Need-sub-result
 sub-result c = search needs
 
 returns-2 : tie.Need-returns-2
-returns-2 c = rw (← (recalled-as (c .before .before .before .before .pre)), lt-ltb _ _ (c .before .before .if1 .taken), ne-eqb _ _ (c .if2 .left))
+returns-2 c = search (number-told, needs)
 
 add-if3 : tie.Need-add-if3
 add-if3 c = omega (arith, room c)
@@ -75,16 +73,16 @@ shared-slice-read-result : tie.Need-shared-slice-read-result
 shared-slice-read-result c = omega (arith, room (c .before .before .before .before .before .before .before))
 
 returns-3 : tie.Need-returns-3
-returns-3 c = rw (← (recalled-as (c .before .before .before .before .before .before .before .before .before .pre)), le-ltb _ _ (c .before .before .before .before .before .before .before .if1 .left), eq-eqb _ _ (c .before .before .before .before .before .if3 .taken), eq-eqb _ _ (c .before .before .before .if4 .taken), eq-eqb _ _ (c .before .if5 .taken))
+returns-3 c = search (entry-found, needs)
 
 returns-4 : tie.Need-returns-4
-returns-4 c = rw (← (recalled-as (c .before .before .before .before .before .before .before .before .pre)), le-ltb _ _ (c .before .before .before .before .before .before .if1 .left), eq-eqb _ _ (c .before .before .before .before .if3 .taken), eq-eqb _ _ (c .before .before .if4 .taken), ne-eqb _ _ (c .if5 .left))
+returns-4 c = search (entry-of-y, needs)
 
 returns-5 : tie.Need-returns-5
-returns-5 c = rw (← (recalled-as (c .before .before .before .before .before .before .pre)), le-ltb _ _ (c .before .before .before .before .if1 .left), eq-eqb _ _ (c .before .before .if3 .taken), ne-eqb _ _ (c .if4 .left))
+returns-5 c = search (entry-of-x, needs)
 
 returns-6 : tie.Need-returns-6
-returns-6 c = rw (← (recalled-as (c .before .before .before .before .pre)), le-ltb _ _ (c .before .before .if1 .left), ne-eqb _ _ (c .if3 .left))
+returns-6 c = search (entry-of-mode, needs)
 
 pub recall-spec : {M : Type 1} → statement M
 recall-spec =

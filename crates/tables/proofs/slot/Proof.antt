@@ -1,11 +1,12 @@
 -- `tables::slot` meets its contract: its tests are the definition's, and no sum or product wraps. Assumes nothing.
 use mathlib.Core.Path.{sym}
+use Prim.Native.Nat.{_<_}
 use native.Mathlib.Nat.{lt-of-lt-of-le}
 use native.Mathlib.Omega.{arith}
 use borrow.Author.Needs.{needs}
 use lib.Dec.{lit<}
 use Rattle.transitions.specs.Plan.{plan-of}
-use Rattle.tables.specs.Table.{state}
+use Rattle.tables.specs.Table.{state, bucket}
 use Rattle.tables.proofs.Slots.{region-zero, region-one, region-waiting, region-shared, slot-alone, slot-shared, share-limit, bucket-limit}
 use Rattle.tables.proofs.slot.Statement.{statement}
 use Rattle.tables.proofs.slot.Tie as tie
@@ -84,22 +85,24 @@ element-copy-out-result c = search needs
 cast-result : tie.Need-cast-result
 cast-result c = search needs
 
+bucket-below : (c : tie.After-result) →
+    let s = c .before .before .before .before .before .before .before in
+    let slots = plan-of (s .args .plan .now) .slots in
+    bucket slots (s .args .x) (s .args .y) (s .args .mode) < slots
+bucket-below c =
+    let s = c .before .before .before .before .before .before .before in
+    bucket-limit (plan-of (s .args .plan .now) .slots) (s .args .x) (s .args .y) (s .args .mode) (s .pre .some-slots)
+
 mul-result-3 : tie.Need-mul-result-3
 mul-result-3 c =
     let sizes = c .before .before .before .before .before .before .before .pre in
     record { fits = lt-of-lt-of-le (share-limit _ _ (sizes .some-slots)) (omega arith) }
 
 mul-result-4 : tie.Need-mul-result-4
-mul-result-4 c =
-    let s = c .before .before .before .before .before .before .before in
-    let a = s .args in
-    omega (arith, bucket-limit (plan-of (a .plan .now) .slots) (a .x) (a .y) (a .mode) (s .pre .some-slots))
+mul-result-4 c = omega (arith, bucket-below c)
 
 add-result-3 : tie.Need-add-result-3
-add-result-3 c =
-    let s = c .before .before .before .before .before .before .before in
-    let a = s .args in
-    omega (arith, bucket-limit (plan-of (a .plan .now) .slots) (a .x) (a .y) (a .mode) (s .pre .some-slots))
+add-result-3 c = omega (arith, bucket-below c)
 
 returns-4 : tie.Need-returns-4
 returns-4 c =
