@@ -1,9 +1,8 @@
 -- What a turn of the walk asks for and leaves: at the state's slot, before and after its calls. Definitions only.
 use mathlib.Core.Path.{_≡_}
 use mathlib.Core.Bool.{cond}
-use mathlib.Core.Logic.{_⊎_}
 use mathlib.Core.List.{List}
-use Prim.Native.Nat.{ℕ, suc, _+_, _*_, _/_, _<_, _≤_}
+use Prim.Native.Nat.{ℕ, _+_, _*_, _/_, _<_, _≤_}
 use lib.Dec.{eqb}
 use lib.IntN.{ℤ}
 use lib.ListN.{length, getD, set}
@@ -27,7 +26,7 @@ use Rattle.turns.specs.Work.{source-in, Work, node-room, value-room, pro
 
 -- the count in slot k goes up where the answer is the new one; a missing slot ends the building
 abbrev pub tallied : ℕ → ℕ → ℕ → List ℕ → List ℕ
-tallied k new r tally = cond (eqb r FULL) (set tally 2 1) (cond (eqb r new) (set tally k (suc (getD tally k 0))) tally)
+tallied k new r tally = cond (eqb r FULL) (set tally 2 1) (cond (eqb r new) (set tally k (getD tally k 0 + 1)) tally)
 
 -- ---- the node over two answers
 
@@ -49,7 +48,8 @@ module _ (plan level low high index tally : List ℕ) (lv l h : ℕ) where
 
     -- with the computed table: the answer is kept for the state, unless a number lay outside the width
     pub record Finished (memo : List ℕ) (σ : State) (memo′ : List ℕ) (r : ℕ) : Type 0 where
-      pub outside : (l ≡ OUT) ⊎ (h ≡ OUT) → (r ≡ OUT) × (memo′ ≡ memo) × JoinUnchanged
+      pub low-out : l ≡ OUT → (r ≡ OUT) × (memo′ ≡ memo) × JoinUnchanged
+      pub high-out : h ≡ OUT → (r ≡ OUT) × (memo′ ≡ memo) × JoinUnchanged
       pub inside : (l ≡ OUT → ⊥) → (h ≡ OUT → ⊥) → Joined r × (memo′ ≡ noted (plan-of plan) memo σ r)
 
 -- ---- the value of a state with no question left

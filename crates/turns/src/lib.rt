@@ -44,7 +44,7 @@ fn join(
     let r = diagrams::make_node(level, low, high, index, plan[NODE_HEADS], used, lv, l, h);
     if r == FULL {
         tally[2] = 1;
-        return FULL;
+        return r;
     }
     if r == 2 * used + 1 {
         tally[0] = used + 1;
