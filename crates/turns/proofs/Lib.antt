@@ -1,3 +1,4 @@
 pub mod Progress
 pub mod Works
 pub mod Tallies
+pub mod Ends

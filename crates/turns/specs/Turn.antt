@@ -20,7 +20,7 @@ use Rattle.transitions.specs.Next.{leaf-entry}
 use Rattle.transitions.specs.Valid.{ValidPlan, ValidState}
 use Rattle.tables.specs.Table.{slot-of, noted}
 use Rattle.turns.specs.Progress.{FULL, OUT, out, Walks}
-use Rattle.turns.specs.Work.{source-in, Work, node-room, value-room, progress-of, Working, SameSizes}
+use Rattle.turns.specs.Work.{source-in, Work, node-room, value-room, progress-of, Working, SameRoom}
 
 -- ---- the tally
 
@@ -97,6 +97,6 @@ pub record Asking (plan : List ℕ) (cols : List (List ℕ)) (vals : List (List 
 
 -- what it leaves
 pub record Walked (plan : List ℕ) (cols : List (List ℕ)) (vals : List (List ℤ)) (w : Work) (σ : State) (r : ℕ) (w′ : Work) : Type 0 where
-  pub sizes : SameSizes w w′
+  pub room : SameRoom w w′
   pub work : Working (plan-of plan) (source-in plan cols vals) w′
   pub walks : Walks (node-room w) (value-room w) (plan-of plan) (source-in plan cols vals) σ (progress-of w) (progress-of w′) r

@@ -73,16 +73,12 @@ Filled plan w full = Unit {0}
 Filled plan w out = Unit {0}
 
 pub record Working (plan : Plan) (s : Store Entry) (w : Work) : Type 0 where
+  pub four : length (w .tally) ≡ 4
   pub table : TableFits plan (w .memo)
   pub filled : Filled plan w (progress-of w)
   pub right : AllRight (Right plan s (progress-of w)) plan (w .memo)
 
--- the columns and tables keep their lengths
-pub record SameSizes (w w′ : Work) : Type 0 where
-  pub level : length (w′ .level) ≡ length (w .level)
-  pub low : length (w′ .low) ≡ length (w .low)
-  pub high : length (w′ .high) ≡ length (w .high)
-  pub terminals : length (w′ .terminals) ≡ length (w .terminals)
-  pub node-index : length (w′ .node-index) ≡ length (w .node-index)
-  pub value-index : length (w′ .value-index) ≡ length (w .value-index)
-  pub memo : length (w′ .memo) ≡ length (w .memo)
+-- there is as much room as before
+pub record SameRoom (w w′ : Work) : Type 0 where
+  pub nodes : length (w′ .level) ≡ length (w .level)
+  pub values : length (w′ .terminals) ≡ length (w .terminals)
