@@ -6,7 +6,7 @@ use mathlib.Core.List.{List, [], _∷_, _++_}
 use Prim.Native.Nat.{ℕ, zero, suc, _+_, _*_, _-_, _/_, _%_, _<_, _≤_}
 use lib.Dec.{eqb, ltb}
 use lib.IntN.{ℤ, pos, negsuc}
-use lib.ListN.{length, getD, drop}
+use lib.ListN.{length, getD, set, drop}
 use Rattle.algebra.specs.declared.Entry.{Entry}
 use Rattle.algebra.specs.Entry.{entry, 𝟘}
 use Rattle.diagrams.specs.Diagram.{Node, branch, unused, code, ref-of, Distinct, slot, keep, same-node, same-entry}
@@ -104,6 +104,9 @@ value-hash heads e =
 -- the numbers of entry j stand in the slots 4j to 4j + 3
 abbrev pub entry-in : List ℤ → ℕ → Entry
 entry-in vals j = entry (getD vals (4 * j) (pos 0)) (getD vals (4 * j + 1) (pos 0)) (getD vals (4 * j + 2) (pos 0)) (getD vals (4 * j + 3) (pos 0))
+
+abbrev pub with-entry : List ℤ → ℕ → Entry → List ℤ
+with-entry vals j e = set (set (set (set vals (4 * j) (e .a)) (4 * j + 1) (e .b)) (4 * j + 2) (e .c)) (4 * j + 3) (e .d)
 
 abbrev pub values-in : ℕ → List ℤ → List Entry
 values-in used vals = listed used (entry-in vals)
