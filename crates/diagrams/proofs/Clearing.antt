@@ -2,15 +2,17 @@
 -- Assumes nothing.
 use mathlib.Core.Path.{_≡_, refl, sym, _∙_, ap, _≡⟨_⟩_, _∎}
 use mathlib.Core.List.{List, [], _∷_, _++_, append-assoc}
-use Prim.Native.Nat.{ℕ, zero, suc, _+_, _-_, _<_, _≤_}
+use Prim.Native.Nat.{ℕ, suc, _+_, _*_, _-_, _<_, _≤_}
 use native.Mathlib.Numerals.{add-one}
 use native.Mathlib.Nat.{sub-self}
 use native.Mathlib.Omega.{arith}
+use lib.IntN.{ℤ}
 use lib.ListN.{length, getD, take, drop, set, replicate, length-append, length-replicate, length-take, length-drop, take-append-drop, getD-replicate, replicate-append-replicate, List·getD-append}
 use lib.Seq.{drop-cons, set-at, length-take-le, getD-append-add}
+use Rattle.algebra.specs.Entry.{𝟘}
 use Rattle.diagrams.specs.Diagram.{unused}
 use Rattle.diagrams.specs.Columns.{zeroed}
-use Rattle.diagrams.specs.UniqueTable.{listed, last-with, Indexed, node-hash, NodesHeld}
+use Rattle.diagrams.specs.UniqueTable.{listed, last-with, Indexed, node-hash, NodesHeld, value-hash, ValuesHeld}
 
 module _ {A : Type 0} (nought : A) (l : List A) (from : ℕ) where
   pub zeroed-none : zeroed nought from from l ≡ l
@@ -117,4 +119,13 @@ cleared-nodes N heads level low high index p q r small some long = record {
   high-long = r;
   nodes = refl;
   indexed = cleared-indexed (node-hash heads) unused N heads index small some long;
+}
+
+pub cleared-values : (L heads : ℕ) (vals : List ℤ) (index : List ℕ) → length vals ≡ 4 * L
+    → L ≤ 65536 → 0 < heads → L + heads ≤ length index → ValuesHeld L heads [] vals (zeroed 0 L (L + heads) index)
+unfolding listed
+cleared-values L heads vals index p small some long = record {
+  vals-long = p;
+  values = refl;
+  indexed = cleared-indexed (value-hash heads) 𝟘 L heads index small some long;
 }

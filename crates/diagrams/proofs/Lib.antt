@@ -10,4 +10,5 @@ pub mod References
 pub mod Chains
 pub mod Hashes
 pub mod NodeTables
+pub mod ValueTables
 pub mod Clearing

@@ -65,7 +65,7 @@ module _ {N heads : ℕ} {ns : List Node} {level low high index : List ℕ} (hel
   wanted = branch lv (ref-of lo) (ref-of hi)
 
   abbrev Made : ℕ → List ℕ → List ℕ → List ℕ → List ℕ → Type 0
-  Made r level′ low′ high′ index′ = NodeMade level low high index r level′ low′ high′ index′ N heads wanted ns
+  Made r level′ low′ high′ index′ = NodeMade level low high index level′ low′ high′ index′ N heads wanted ns r
 
   pub made-alike : lo ≡ hi → Made lo level low high index
   made-alike e = record {
@@ -99,8 +99,8 @@ module _ {N heads : ℕ} {ns : List Node} {level low high index : List ℕ} (hel
   module _ (differ : lo ≡ hi → ⊥) (p : ℕ) (is : p ≡ found same-node wanted ns) where
     apart-by : {r : ℕ} {level′ low′ high′ index′ : List ℕ}
         → Put same-node (λ i. 2 * i + 1) N wanted ns r
-        (λ ns′. NodesHeld N heads ns′ level′ low′ high′ index′ × NodesPast level low high index r level′ low′ high′ index′ (length ns′))
-        (NodesUnchanged level low high index r level′ low′ high′ index′)
+        (λ ns′. NodesHeld N heads ns′ level′ low′ high′ index′ × NodesPast level low high index level′ low′ high′ index′ (length ns′))
+        (NodesUnchanged level low high index level′ low′ high′ index′)
         → Made r level′ low′ high′ index′
     apart-by put = record { alike = λ e. absurd (differ (ref-of-injective lo hi e)); apart = λ _. put }
 
@@ -134,11 +134,11 @@ pub data NodeStored {X : Type 0} (N heads : ℕ) (D : Diagram X) (r : ℕ) (leve
 
 module _ {X : Type 0} {N heads : ℕ} {level low high index : List ℕ} {r : ℕ} {level′ low′ high′ index′ : List ℕ} (n : Node) (s : Store X) (used : ℕ) where
   pub node-stored : used ≡ length (s .nodes) → NodesHeld N heads (s .nodes) level low high index
-      → NodeMade level low high index r level′ low′ high′ index′ (length level) heads n (nodes-in used level low high)
+      → NodeMade level low high index level′ low′ high′ index′ (length level) heads n (nodes-in used level low high) r
       → NodeStored N heads (make-node n s) r level′ low′ high′ index′
   node-stored u held made = by-test (same-ref (n .low) (n .high)) refl (rw (u, held .nodes, held .level-long) at made)
     where
-      by-test : (t : Bool) → same-ref (n .low) (n .high) ≡ t → NodeMade level low high index r level′ low′ high′ index′ N heads n (s .nodes)
+      by-test : (t : Bool) → same-ref (n .low) (n .high) ≡ t → NodeMade level low high index level′ low′ high′ index′ N heads n (s .nodes) r
           → NodeStored N heads (cond t (rooted s (n .low)) (put-node n s)) r level′ low′ high′ index′
       by-test true e made =
           let (answer, same) = made .alike (ref-decides .sound (n .low) (n .high) e) in
@@ -146,8 +146,8 @@ module _ {X : Type 0} {N heads : ℕ} {level low high index : List ℕ} {r : ℕ
       by-test false e made = by-room (made .apart (false-apart ref-decides (n .low) (n .high) e)) (decLe (length (keep same-node n (s .nodes))) N)
         where
           by-room : Put same-node (λ i. 2 * i + 1) N n (s .nodes) r
-              (λ ns′. NodesHeld N heads ns′ level′ low′ high′ index′ × NodesPast level low high index r level′ low′ high′ index′ (length ns′))
-              (NodesUnchanged level low high index r level′ low′ high′ index′)
+              (λ ns′. NodesHeld N heads ns′ level′ low′ high′ index′ × NodesPast level low high index level′ low′ high′ index′ (length ns′))
+              (NodesUnchanged level low high index level′ low′ high′ index′)
               → Dec (length (keep same-node n (s .nodes)) ≤ N) → NodeStored N heads (put-node n s) r level′ low′ high′ index′
           by-room put (yes fits) = let (answer, after) = put .kept fits in stored fits answer (after .0)
           by-room put (no over) = no-room (omega arith) (put .missing (omega arith) .0)

@@ -3,10 +3,13 @@
 use mathlib.Core.Path.{_≡_}
 use mathlib.Core.Bool.{Bool, cond}
 use mathlib.Core.List.{List, [], _∷_, _++_}
-use Prim.Native.Nat.{ℕ, zero, suc, _+_, _*_, _/_, _%_, _<_, _≤_}
+use Prim.Native.Nat.{ℕ, zero, suc, _+_, _*_, _-_, _/_, _%_, _<_, _≤_}
 use lib.Dec.{eqb, ltb}
-use lib.ListN.{length, getD, drop}
-use Rattle.diagrams.specs.Diagram.{Node, branch, unused, code, ref-of, Distinct, slot, keep, same-node}
+use lib.IntN.{ℤ, pos, negsuc}
+use lib.ListN.{length, getD, set, drop}
+use Rattle.algebra.specs.declared.Entry.{Entry}
+use Rattle.algebra.specs.Entry.{entry, 𝟘}
+use Rattle.diagrams.specs.Diagram.{Node, branch, unused, code, ref-of, Distinct, slot, keep, same-node, same-entry}
 
 -- what is answered where a slot is missing: no reference is as large
 abbrev pub full : ℕ
@@ -53,7 +56,8 @@ abbrev pub found : {A : Type 0} → (A → A → Bool) → A → List A → ℕ
 found same x l = cond (ltb (slot same x l) (length l)) (suc (slot same x l)) 0
 
 -- An element is found or appended: r is what is answered, `answer` the reference of a slot.
-pub record Put {A : Type 0} (same : A → A → Bool) (answer : ℕ → ℕ) (N : ℕ) (x : A) (l : List A) (r : ℕ) (Held : List A → Type 0) (Unchanged : Type 0) : Type 0 where
+pub record Put {A : Type 0} (same : A → A → Bool) (answer : ℕ → ℕ) (N : ℕ) (x : A) (l : List A) (r : ℕ)
+    (Held : List A → Type 0) (Unchanged : Type 0) : Type 0 where
   pub kept : length (keep same x l) ≤ N → (r ≡ answer (slot same x l)) × Held (keep same x l)
   pub missing : N < length (keep same x l) → (r ≡ full) × Unchanged
 
@@ -73,7 +77,7 @@ pub record NodesHeld (N heads : ℕ) (ns : List Node) (level low high index : Li
   pub indexed : Indexed (node-hash heads) unused N heads ns index
 
 -- What `make_node` leaves: r is its answer, and the columns with ′ are those after it.
-module _ (level low high index : List ℕ) (r : ℕ) (level′ low′ high′ index′ : List ℕ) where
+module _ (level low high index level′ low′ high′ index′ : List ℕ) where
   abbrev pub NodesUnchanged : Type 0
   NodesUnchanged = (level′ ≡ level) × (low′ ≡ low) × (high′ ≡ high) × (index′ ≡ index)
 
@@ -81,7 +85,41 @@ module _ (level low high index : List ℕ) (r : ℕ) (level′ low′ high′ in
   abbrev pub NodesPast : ℕ → Type 0
   NodesPast k = (drop k level′ ≡ drop k level) × (drop k low′ ≡ drop k low) × (drop k high′ ≡ drop k high)
 
-  pub record NodeMade (N heads : ℕ) (n : Node) (ns : List Node) : Type 0 where
+  pub record NodeMade (N heads : ℕ) (n : Node) (ns : List Node) (r : ℕ) : Type 0 where
     pub alike : n .low ≡ n .high → (r ≡ code (n .low)) × NodesUnchanged
     pub apart : (n .low ≡ n .high → ⊥)
         → Put same-node (λ i. 2 * i + 1) N n ns r (λ ns′. NodesHeld N heads ns′ level′ low′ high′ index′ × NodesPast (length ns′)) NodesUnchanged
+
+-- ---- terminals
+
+-- a number of 32 bits, lifted by 2^31
+unfoldable pub lifted : ℤ → ℕ
+lifted (pos n) = n + 2147483648
+lifted (negsuc n) = 2147483647 - n
+
+unfoldable pub value-hash : ℕ → Entry → ℕ
+value-hash heads e =
+    (lifted (e .a) * 506952121 + lifted (e .b) * 313699893 + lifted (e .c) * 384368313 + lifted (e .d) * 461845907) / 16777216 % 65536 * heads / 65536
+
+-- the numbers of entry j stand in the slots 4j to 4j + 3
+abbrev pub entry-in : List ℤ → ℕ → Entry
+entry-in vals j = entry (getD vals (4 * j) (pos 0)) (getD vals (4 * j + 1) (pos 0)) (getD vals (4 * j + 2) (pos 0)) (getD vals (4 * j + 3) (pos 0))
+
+abbrev pub with-entry : List ℤ → ℕ → Entry → List ℤ
+with-entry vals j e = set (set (set (set vals (4 * j) (e .a)) (4 * j + 1) (e .b)) (4 * j + 2) (e .c)) (4 * j + 3) (e .d)
+
+abbrev pub values-in : ℕ → List ℤ → List Entry
+values-in used vals = listed used (entry-in vals)
+
+-- the slots hold these terminals, and the index finds them
+pub record ValuesHeld (L heads : ℕ) (vs : List Entry) (vals : List ℤ) (index : List ℕ) : Type 0 where
+  pub vals-long : length vals ≡ 4 * L
+  pub values : values-in (length vs) vals ≡ vs
+  pub indexed : Indexed (value-hash heads) 𝟘 L heads vs index
+
+-- What `make_value` leaves: r is its answer, and the slots with ′ are those after it.
+abbrev pub ValueMade : (vals : List ℤ) (index : List ℕ) (vals′ : List ℤ) (index′ : List ℕ) (L heads : ℕ) (e : Entry) (vs : List Entry) (r : ℕ) → Type 0
+ValueMade vals index vals′ index′ L heads e vs r =
+    Put same-entry (λ j. 2 * j) L e vs r
+    (λ vs′. ValuesHeld L heads vs′ vals′ index′ × (drop (4 * length vs′) vals′ ≡ drop (4 * length vs′) vals))
+    ((vals′ ≡ vals) × (index′ ≡ index))
