@@ -19,33 +19,6 @@ ref-of-odd x odd = rw (eq-eqb _ _ odd)
 pub ref-of-even : (x : ℕ) → (x % 2 ≡ 1 → ⊥) → ref-of x ≡ value (x / 2)
 ref-of-even x even = rw (ne-eqb _ _ even)
 
--- "A reference 2·j is value j; 2·i + 1 is node i."
-pub ref-of-code : (r : Ref) → ref-of (code r) ≡ r
-ref-of-code (value j) = ref-of-even (2 * j) (λ e. even j e) ∙ ap value (half j)
-  where
-    even : (j : ℕ) → (2 * j) % 2 ≡ 1 → ⊥
-    even j e = omega arith
-
-    half : (j : ℕ) → (2 * j) / 2 ≡ j
-    half j = omega arith
-ref-of-code (node i) = ref-of-odd (2 * i + 1) (odd i) ∙ ap node (half i)
-  where
-    odd : (i : ℕ) → (2 * i + 1) % 2 ≡ 1
-    odd i = omega arith
-
-    half : (i : ℕ) → (2 * i + 1) / 2 ≡ i
-    half i = omega arith
-
-pub code-ref-of : (x : ℕ) → code (ref-of x) ≡ x
-code-ref-of x = by-test (eqb (x % 2) 1) refl
-  where
-    by-test : (b : Bool) → eqb (x % 2) 1 ≡ b → code (cond b (node (x / 2)) (value (x / 2))) ≡ x
-    by-test true e = let odd : x % 2 ≡ 1 = eqb-true _ _ e in omega arith
-    by-test false e = let even : x % 2 ≡ 1 → ⊥ = eqb-false _ _ e in omega (arith, even-left x even)
-      where
-        even-left : (x : ℕ) → (x % 2 ≡ 1 → ⊥) → x % 2 ≡ 0
-        even-left x h = omega arith
-
 -- ---- modes
 
 pub mode-turning : (m : ℕ) → m < 8 → mode-of m ≡ turning m

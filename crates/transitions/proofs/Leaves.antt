@@ -8,13 +8,14 @@ use native.Mathlib.Decide.{decLt}
 use native.Mathlib.Omega.{arith}
 use lib.Dec.{eqb}
 use lib.IntN.{ℤ}
+use lib.ListN.{length}
 use borrow.Author.Tests.{eq-eqb, ne-eqb, eqb-true, eqb-false}
 use Rattle.algebra.specs.declared.Entry.{Entry}
 use Rattle.algebra.specs.Entry.{_⊕_, _⊖_, turned}
 use Rattle.diagrams.specs.Diagram.{Ref, value, node, Store, ref-of}
 use Rattle.diagrams.proofs.Tests.{both-true}
 use Rattle.transitions.specs.State.{Mode, adding, subtracting, mode-of}
-use Rattle.transitions.specs.Source.{ValuesHeld, entry-in, Refers}
+use Rattle.transitions.specs.Source.{ValuesHeld, entry-in, Refers, Holds-slot}
 use Rattle.transitions.specs.Next.{numbered, is-value, is-leaf-by, is-leaf, entry-of, leaf-entry}
 use Rattle.transitions.proofs.Codes.{ref-of-odd, ref-of-even, mode-turning, mode-adding, mode-subtracting, mode-waiting, mode-choosing, mode-pair}
 
@@ -59,18 +60,25 @@ module _ (x y m : ℕ) where
 
 -- ---- the entry
 
-pub entry-read : (s : Store Entry) (vals : List (List ℤ)) (x : ℕ) → ValuesHeld s vals → Refers s (ref-of x) → is-value (ref-of x) ≡ true
-    → entry-in vals (x / 2) ≡ entry-of s (ref-of x)
-entry-read s vals x held refers is-one = by-test (eqb (x % 2) 0) refl
+value-half : (x : ℕ) → is-value (ref-of x) ≡ true → ref-of x ≡ value (x / 2)
+value-half x is-one = by-test (eqb (x % 2) 0) refl
   where
-    by-test : (b : Bool) → eqb (x % 2) 0 ≡ b → entry-in vals (x / 2) ≡ entry-of s (ref-of x)
-    by-test true e =
-        let even : ref-of x ≡ value (x / 2) = ref-of-even x (λ odd. absurd (odd-even (eqb-true _ _ e) odd)) in
-        rw even (held .entry-at (x / 2) (rw even at refers))
-      where
-        odd-even : x % 2 ≡ 0 → x % 2 ≡ 1 → ⊥
-        odd-even p q = omega arith
+    even : x % 2 ≡ 0 → x % 2 ≡ 1 → ⊥
+    even p q = omega arith
+
+    by-test : (b : Bool) → eqb (x % 2) 0 ≡ b → ref-of x ≡ value (x / 2)
+    by-test true e = ref-of-even x (even (eqb-true _ _ e))
     by-test false e = absurd (true≢false (sym is-one ∙ value-false x (eqb-false _ _ e)))
+
+module _ (s : Store Entry) (vals : List (List ℤ)) (x : ℕ) (held : ValuesHeld s vals) (refers : Refers s (ref-of x)) (is-one : is-value (ref-of x) ≡ true) where
+  value-refers : x / 2 < length (s .values)
+  value-refers = rw (value-half x is-one) at refers
+
+  pub value-slot : Holds-slot vals (x / 2)
+  value-slot c below = let used = value-refers in let long = held .long c below in omega arith
+
+  pub entry-read : entry-in vals (x / 2) ≡ entry-of s (ref-of x)
+  entry-read = rw (value-half x is-one) (held .entry-at (x / 2) value-refers)
 
 module _ (s : Store Entry) (vals : List (List ℤ)) (x y m : ℕ) (held : ValuesHeld s vals) (x-refers : Refers s (ref-of x)) where
   pub leaf-turning : {e : Entry} → m < 8 → is-leaf (numbered x y m) ≡ true → e ≡ entry-in vals (x / 2) → turned m e ≡ leaf-entry s (numbered x y m)

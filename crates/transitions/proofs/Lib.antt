@@ -2,3 +2,10 @@ pub mod Codes
 pub mod Slots
 pub mod Turns
 pub mod Leaves
+pub mod Actions
+pub mod Stages
+pub mod Cofactors
+pub mod Sound
+pub mod Meanings
+pub mod Needs
+pub mod Walks

@@ -1,0 +1,86 @@
+-- Where a plan has a control: at its stages, but for the target's.
+-- Assumes nothing.
+use mathlib.Core.Path.{_≡_, refl, sym, _∙_, ap, ap₂, fun-ext}
+use mathlib.Core.Bool.{Bool, true, false, not, _&&_, _||_, and-false}
+use mathlib.Core.List.{[], _∷_}
+use mathlib.Core.Logic.{_⊎_, inl, inr}
+use Prim.Native.Nat.{ℕ, zero, suc, _+_, _<_, _≤_}
+use native.Mathlib.Decide.{decLt}
+use native.Mathlib.Omega.{arith}
+use lib.Dec.{eqb}
+use borrow.Author.Tests.{eq-eqb, ne-eqb}
+use Rattle.algebra.specs.declared.Entry.{Entry}
+use Rattle.algebra.specs.Matrix.{Bits}
+use Rattle.gates.specs.Rule.{all-set}
+use Rattle.gates.proofs.LocalRules.{all-set-none}
+use Rattle.diagrams.specs.Diagram.{Store}
+use Rattle.transitions.specs.Plan.{Plan, among, control}
+use Rattle.transitions.specs.Valid.{ValidPlan, Passed}
+
+-- ---- among the stages
+
+pub among-none : (k : ℕ) (stage : ℕ → ℕ) (level : ℕ) → ((j : ℕ) → j < k → stage j ≡ level → ⊥) → among k stage level ≡ false
+among-none zero stage level none = refl
+among-none (suc k) stage level none =
+    ap₂ _||_ (ne-eqb _ _ (none k (omega arith))) (among-none k stage level (λ j h. none j (omega arith)))
+
+pub among-one : (k : ℕ) (stage : ℕ → ℕ) (level j : ℕ) → j < k → stage j ≡ level → among k stage level ≡ true
+among-one zero stage level j h e = absurd (omega arith)
+among-one (suc k) stage level j h e = by-order (decLt j k) (λ less. among-one k stage level j less e)
+  where
+    or-true : (b : Bool) → (b || true) ≡ true
+    or-true true = refl
+    or-true false = refl
+
+    by-order : Dec (j < k) → (j < k → among k stage level ≡ true) → (eqb (stage k) level || among k stage level) ≡ true
+    by-order (yes less) earlier = ap (λ (b : Bool). eqb (stage k) level || b) (earlier less) ∙ or-true (eqb (stage k) level)
+    by-order (no last) earlier =
+        let is-last : k ≡ j = omega arith in
+        ap (λ (b : Bool). b || among k stage level) (eq-eqb (stage k) level (ap stage is-last ∙ e))
+
+-- ---- controls
+
+module _ (plan : Plan) (s : Store Entry) (valid : ValidPlan plan s) where
+  control-none : (level : ℕ) → ((j : ℕ) → j < plan .stages → plan .stage j ≡ level → ⊥) → control plan level ≡ false
+  control-none level none = ap (λ (b : Bool). b && not (eqb level (plan .stage (plan .target)))) (among-none (plan .stages) (plan .stage) level none)
+
+  -- not at the target
+  pub control-target : (level : ℕ) → plan .stage (plan .target) ≡ level → control plan level ≡ false
+  control-target level here =
+      ap (λ (b : Bool). among (plan .stages) (plan .stage) level && not b) (eq-eqb level (plan .stage (plan .target)) (sym here))
+      ∙ and-false (among (plan .stages) (plan .stage) level)
+
+  -- at any other stage
+  pub control-stage : (k level : ℕ) → k < plan .stages → plan .stage k ≡ level → (plan .target ≡ k → ⊥) → control plan level ≡ true
+  control-stage k level below here other =
+      ap₂ (λ (a b : Bool). a && not b) (among-one (plan .stages) (plan .stage) level k below here)
+      (ne-eqb level (plan .stage (plan .target)) (λ e. apart (decLt k (plan .target)) (here ∙ e)))
+    where
+      apart : Dec (k < plan .target) → plan .stage k ≡ plan .stage (plan .target) → ⊥
+      apart (yes less) e = let rises = valid .stages-ascend k (plan .target) less (valid .has-target) in omega arith
+      apart (no more) e = let rises = valid .stages-ascend (plan .target) k (omega arith) below in omega arith
+
+  -- not between two stages
+  pub control-between : (k level : ℕ) → k < plan .stages → Passed plan k level → level < plan .stage k → control plan level ≡ false
+  control-between k level below passed ahead = control-none level (λ j h e. by-order j h e (decLt j k) (decLt k j))
+    where
+      by-order : (j : ℕ) → j < plan .stages → plan .stage j ≡ level → Dec (j < k) → Dec (k < j) → ⊥
+      by-order j h e (yes less) other = let before = passed j less in omega arith
+      by-order j h e (no not-less) (yes more) = let after = valid .stages-ascend k j more h in omega arith
+      by-order j h e (no not-less) (no not-more) = let same : j ≡ k = omega arith in omega (arith, ap (plan .stage) same)
+
+  -- past the last stage no bit is asked for
+  pub all-passed : (level : ℕ) (l : Bits) → Passed plan (plan .stages) level → all-set (λ i. control plan (level + i)) l ≡ true
+  all-passed level l passed =
+      ap (λ (P : ℕ → Bool). all-set P l) (fun-ext (λ i. control-none (level + i) (λ j h e. past i j (passed j h) e))) ∙ all-set-none l
+    where
+      past : (i j : ℕ) → plan .stage j < level → plan .stage j ≡ level + i → ⊥
+      past i j h e = omega arith
+
+-- ---- the bits after the first
+
+pub control-shift : (plan : Plan) (level : ℕ) → _≡_ {A = ℕ → Bool} (λ i. control plan (level + suc i)) (λ i. control plan (suc level + i))
+control-shift plan level = fun-ext (λ i. ap (control plan) (shift i))
+  where
+    shift : (i : ℕ) → level + suc i ≡ suc level + i
+    shift i = omega arith
