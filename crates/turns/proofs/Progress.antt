@@ -10,12 +10,13 @@ use lib.Dec.{leb}
 use lib.ListN.{length, length-append}
 use Rattle.algebra.specs.declared.Entry.{Entry}
 use Rattle.diagrams.specs.Diagram.{Ref, code, ref-of, branch, Store, Diagram, rooted, make-node}
-use Rattle.diagrams.proofs.Again.{Extends, extends-trans, make-node-extends, reduce-extends, reduce-again}
+use Rattle.diagrams.proofs.Again.{Extends, extends-trans, make-node-extends}
 use Rattle.diagrams.proofs.References.{ref-of-code}
-use Rattle.diagrams.proofs.Tests.{both-true, true-both, entry-decides}
+use Rattle.diagrams.proofs.Tests.{both-true, true-both}
 use Rattle.transitions.specs.declared.State.{State}
 use Rattle.transitions.specs.Plan.{Plan}
-use Rattle.transitions.specs.State.{meaning, top, made, inside}
+use Rattle.transitions.specs.State.{made, inside}
+use Rattle.transitions.proofs.Walks.{made-extends}
 use Rattle.turns.specs.Progress.{FULL, OUT, Progress, building, full, out, roomy, node-over, Walks, built, filled, left, still-full, left-full, gone, Finish, low-out, high-out, no-more, joined, overflows}
 
 -- ---- room
@@ -46,15 +47,6 @@ pub made-walks : {N L : ℕ} {plan : Plan} {s t : Store Entry} {σ : State} {D :
 made-walks {N} {L} {plan} {s} {t} {σ} e a c x =
     subst⁻¹ (λ (E : Diagram Entry). Walks N L plan s σ (building t) (building (E .store)) (code (E .root))) e
     (built a (ap (λ (E : Diagram Entry). roomy N L (E .store)) (sym e) ∙ c) (subst (λ (E : Diagram Entry). code (E .root) < OUT) e x))
-
-pub made-extends : (plan : Plan) (s : Store Entry) (σ : State) (t : Store Entry) → Extends t (made plan s σ t .store)
-unfolding made
-made-extends plan s σ t = let level = top plan s σ in reduce-extends entry-decides (plan .levels - level) level (meaning plan s level σ) t
-
-pub made-again : (plan : Plan) (s : Store Entry) (σ : State) (t u : Store Entry) → Extends (made plan s σ t .store) u
-    → made plan s σ u ≡ rooted u (made plan s σ t .root)
-unfolding made
-made-again plan s σ t u e = let level = top plan s σ in reduce-again entry-decides (plan .levels - level) level (meaning plan s level σ) t u e
 
 -- ---- a turn
 

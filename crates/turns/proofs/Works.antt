@@ -13,9 +13,10 @@ use Rattle.diagrams.proofs.References.{code-ref-of, ref-of-code}
 use Rattle.transitions.specs.declared.State.{State}
 use Rattle.transitions.specs.Plan.{Plan}
 use Rattle.transitions.specs.State.{made, inside}
+use Rattle.transitions.proofs.Walks.{made-extends, made-again}
 use Rattle.turns.specs.Progress.{OUT, Progress, building, full, out, roomy, Walks, built, filled, left, still-full, left-full, gone, Finish, low-out, high-out, no-more, joined, overflows}
 use Rattle.turns.specs.Work.{Right}
-use Rattle.turns.proofs.Progress.{made-walks, made-extends, made-again}
+use Rattle.turns.proofs.Progress.{made-walks}
 
 -- there is room for what is built so far
 abbrev pub Roomy : ℕ → ℕ → Progress → Type 0

@@ -86,3 +86,63 @@ pub fn finish(
     r
 }
 
+// A terminal, if the walk still builds.
+fn terminal(
+    plan: &[u32; 32],
+    e: Entry,
+    terminals: &mut [i32],
+    index: &mut [u32],
+    tally: &mut [u32; 4],
+) -> u32
+    requires { ⌜ PlaceReady (now plan) (now terminals) (now index) (now tally) ⌝ }
+    ensures { λ r. ⌜ Placed (now (plan .entry)) (now (terminals .entry)) (now (index .entry)) (now (tally .entry))
+        (now (terminals .exit)) (now (index .exit)) (now (tally .exit)) e r ⌝ }
+{
+    if tally[2] != 0 {
+        return FULL;
+    }
+    let used = tally[1];
+    let r = diagrams::make_value(terminals, index, plan[VALUE_HEADS], used, e);
+    if r == FULL {
+        tally[2] = 1;
+        return r;
+    }
+    if r == 2 * used {
+        tally[1] = used + 1;
+    }
+    r
+}
+
+// A state with no question left: its value, if it lies within the width, kept in the computed table.
+pub fn settle(
+    plan: &[u32; 32],
+    at: usize,
+    x: u32,
+    y: u32,
+    mode: u32,
+    values: &[&[i32]; 4],
+    terminals: &mut [i32],
+    index: &mut [u32],
+    memo: &mut [u32],
+    tally: &mut [u32; 4],
+) -> u32
+    requires { ⌜ PlaceReady (now plan) (now terminals) (now index) (now tally) ⌝ }
+    requires { ⌜ AtSlot (plan-of (now plan)) (now memo) at (numbered x y mode) ⌝ }
+    requires { ⌜ Holds-slot (map now (now values)) (x / 2) × Holds-slot (map now (now values)) (y / 2) ⌝ }
+    ensures { λ r. ⌜ Settled (now (plan .entry)) (now (terminals .entry)) (now (index .entry)) (now (tally .entry))
+        (now (terminals .exit)) (now (index .exit)) (now (tally .exit))
+        (map now (now (values .entry))) (now (memo .entry)) (numbered x y mode) (now (memo .exit)) r ⌝ }
+{
+    let b = transitions::leaf(values, x, y, mode, plan[WIDTH]);
+    match b {
+        Bounded::Within(e) => {
+            let r = terminal(plan, e, terminals, index, tally);
+            tables::note(memo, plan, at, x, y, mode, r);
+            r
+        }
+        Bounded::Outside => {
+            tally[2] = 2;
+            OUT
+        }
+    }
+}
