@@ -22,6 +22,7 @@ use Rattle.transitions.specs.Plan.{Plan, plan-of}
 use Rattle.turns.specs.Progress.{FULL, OUT, Progress, building, full, out, roomy, node-over, Finish, low-out, high-out, no-more, joined, overflows}
 use Rattle.turns.specs.Work.{Work, node-room, value-room, store-in, progress-of, Filled, Working, SameRoom}
 use Rattle.turns.specs.Turn.{JoinUnchanged, Joined, Finished}
+use Rattle.turns.proofs.Progress.{below-out}
 use Rattle.turns.proofs.Tallies.{Tally, Counted, fits, over, put-counted}
 
 -- ---- how far the tally says that the walk has come
@@ -42,9 +43,6 @@ pub held-roomy : {N L heads heads′ : ℕ} {ns : List Node} {vs : List Entry} {
 held-roomy nodes values = true-both (le-leb _ _ (nodes .indexed .room)) (le-leb _ _ (values .indexed .room))
 
 -- ---- the end
-
-below-out : {a : ℕ} → a < OUT → a ≡ OUT → ⊥
-below-out h e = omega arith
 
 -- what the end of a turn comes to
 pub record Ended (plan : Plan) (w w′ : Work) (lv l h r : ℕ) : Type 0 where

@@ -2,3 +2,4 @@ pub mod Progress
 pub mod Works
 pub mod Tallies
 pub mod Ends
+pub mod Settling

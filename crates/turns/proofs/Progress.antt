@@ -19,6 +19,14 @@ use Rattle.transitions.specs.State.{made, inside}
 use Rattle.transitions.proofs.Walks.{made-extends}
 use Rattle.turns.specs.Progress.{FULL, OUT, Progress, building, full, out, roomy, node-over, Walks, built, filled, left, still-full, left-full, gone, Finish, low-out, high-out, no-more, joined, overflows}
 
+-- ---- answers
+
+pub full-not-out : FULL ≡ OUT → ⊥
+full-not-out e = omega arith
+
+pub below-out : {r : ℕ} → r < OUT → r ≡ OUT → ⊥
+below-out h e = omega arith
+
 -- ---- room
 
 roomy-within : (N L : ℕ) {s t : Store Entry} → Extends s t → roomy N L t ≡ true → roomy N L s ≡ true
@@ -84,21 +92,15 @@ module _ (N L : ℕ) (plan : Plan) (s : Store Entry) (σ low high : State) (leve
 
   -- ---- nothing of a failure is lost, whatever the turn's end makes of it
 
-  full-is-not-out : FULL ≡ OUT → ⊥
-  full-is-not-out e = omega arith
-
   stays-full : {p p₃ : Progress} {l h r : ℕ} → (l ≡ OUT → ⊥) → (h ≡ OUT → ⊥) → Finish N L level l h full p₃ r
       → ((r : ℕ) → (r ≡ OUT → ⊥) → Walks N L plan s σ p full r) → Walks N L plan s σ p p₃ r
   stays-full f g (low-out e) walks = absurd (f e)
   stays-full f g (high-out e) walks = absurd (g e)
-  stays-full f g (no-more x y) walks = walks FULL full-is-not-out
+  stays-full f g (no-more x y) walks = walks FULL full-not-out
 
   stays-out : {p p₃ : Progress} {l h r : ℕ} → Finish N L level l h out p₃ r → Walks N L plan s σ p out OUT → Walks N L plan s σ p p₃ r
   stays-out (low-out e) walks = walks
   stays-out (high-out e) walks = walks
-
-  below-out : {r : ℕ} → r < OUT → r ≡ OUT → ⊥
-  below-out h e = omega arith
 
   -- ---- the turn
 
@@ -108,7 +110,7 @@ module _ (N L : ℕ) (plan : Plan) (s : Store Entry) (σ low high : State) (leve
   turn-walks alive (built {t = t} a c x) (built b d y) (high-out e) = absurd (omega arith)
   turn-walks alive (built {t = t} a c x) (built b d y) (joined f g e z) = made-walks (node-is t refl refl) (both-inside a b) e z
   turn-walks alive (built {t = t} a c x) (built b d y) (overflows f g e) =
-      filled (both-inside a b) (ap (λ (D : Diagram Entry). roomy N L (D .store)) (sym (node-is t refl refl)) ∙ e) full-is-not-out
+      filled (both-inside a b) (ap (λ (D : Diagram Entry). roomy N L (D .store)) (sym (node-is t refl refl)) ∙ e) full-not-out
   turn-walks alive (built {t = t} a c x) (filled b d y) fin =
       stays-full (below-out x) y fin (λ r z. filled (both-inside a b) (not-roomy N L (high-in t) d) z)
   turn-walks alive (built {t = t} a c x) (left b) fin = stays-out fin (left (high-outside a b))

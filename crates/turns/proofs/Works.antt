@@ -16,7 +16,7 @@ use Rattle.transitions.specs.State.{made, inside}
 use Rattle.transitions.proofs.Walks.{made-extends, made-again}
 use Rattle.turns.specs.Progress.{OUT, Progress, building, full, out, roomy, Walks, built, filled, left, still-full, left-full, gone, Finish, low-out, high-out, no-more, joined, overflows}
 use Rattle.turns.specs.Work.{Right}
-use Rattle.turns.proofs.Progress.{made-walks}
+use Rattle.turns.proofs.Progress.{below-out, made-walks}
 
 -- there is room for what is built so far
 abbrev pub Roomy : ℕ → ℕ → Progress → Type 0
@@ -34,9 +34,6 @@ right-walks plan s σ full room r = still-full (r .0) (r .1)
 right-walks plan s σ out room r = gone
 
 -- ---- a walk leaves right answers right
-
-below-out : {a : ℕ} → a < OUT → a ≡ OUT → ⊥
-below-out h e = omega arith
 
 -- what is in a store is in every store that holds more
 right-extends : (plan : Plan) (s : Store Entry) (τ : State) (a : ℕ) {t u : Store Entry} → Extends t u → Right plan s (building t) τ a → Right plan s (building u) τ a
