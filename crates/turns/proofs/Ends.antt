@@ -119,7 +119,7 @@ module _ (plan : List ℕ) (s : Store Entry) (w w′ : Work) (lv l h r : ℕ) (w
     ended-apart differ (fits small answer below held tallies) =
         let phase : getD (w′ .tally) 2 0 ≡ 0 = tallies .others 2 (λ e. omega arith) ∙ builds in
         let store : store-in w′ ≡ put-node wanted (store-in w) .store
-              = rw (tallies .count, held .nodes, tallies .others 1 (λ e. omega arith), terminals-same) in
+        = rw (tallies .count, held .nodes, tallies .others 1 (λ e. omega arith), terminals-same) in
         let (_, values) = holds in
         record {
           finish = rw (building-is w builds, building-is w′ phase, store, answer)
@@ -134,8 +134,8 @@ module _ (plan : List ℕ) (s : Store Entry) (w w′ : Work) (lv l h r : ℕ) (w
         let phase : getD (w′ .tally) 2 0 ≡ 1 = rw tallies (getD-set-same (w .tally) 2 1 0 (omega (arith, working .four))) in
         let is = node-apart (node-room w) (value-room w) lv l h (store-in w) (below-out low-in) (below-out high-in) differ in
         let no-room : roomy (node-room w) (value-room w) (node-over lv l h (store-in w) .store) ≡ false
-              = ap (λ (D : Diagram Entry). roomy (node-room w) (value-room w) (D .store)) (sym is)
-              ∙ ap (λ (b : Bool). b && leb (length (store-in w .values)) (value-room w)) (lt-leb (length (keep same-node wanted nodes)) (node-room w) large) in
+        = ap (λ (D : Diagram Entry). roomy (node-room w) (value-room w) (D .store)) (sym is)
+        ∙ ap (λ (b : Bool). b && leb (length (store-in w .values)) (value-room w)) (lt-leb (length (keep same-node wanted nodes)) (node-room w) large) in
         record {
           finish = rw (building-is w builds, full-is w′ phase, answer) (overflows (below-out low-in) (below-out high-in) no-room);
           filled = rw (full-is w′ phase) tt;

@@ -3,3 +3,4 @@ pub mod Works
 pub mod Tallies
 pub mod Ends
 pub mod Settling
+pub mod Turning

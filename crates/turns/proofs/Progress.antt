@@ -35,9 +35,9 @@ roomy-within N L {s} {t} e h =
     let nodes : length (t .nodes) ≤ N = leb-true _ _ (both .0) in
     let values : length (t .values) ≤ L = leb-true _ _ (both .1) in
     let more-nodes : length (t .nodes) ≡ length (s .nodes) + length (e .more-nodes)
-          = ap length (e .nodes-are) ∙ length-append (s .nodes) (e .more-nodes) in
+    = ap length (e .nodes-are) ∙ length-append (s .nodes) (e .more-nodes) in
     let more-values : length (t .values) ≡ length (s .values) + length (e .more-values)
-          = ap length (e .values-are) ∙ length-append (s .values) (e .more-values) in
+    = ap length (e .values-are) ∙ length-append (s .values) (e .more-values) in
     true-both (le-leb (length (s .nodes)) N (omega arith)) (le-leb (length (s .values)) L (omega arith))
 
 -- what a store has no room for, no store has that holds more
@@ -60,7 +60,7 @@ made-walks {N} {L} {plan} {s} {t} {σ} e a c x =
 
 module _ (N L : ℕ) (plan : Plan) (s : Store Entry) (σ low high : State) (level : ℕ)
     (made-is : (t : Store Entry) → let lo = made plan s low t in let hi = made plan s high (lo .store) in
-        made plan s σ t ≡ make-node (branch level (lo .root) (hi .root)) (hi .store))
+    made plan s σ t ≡ make-node (branch level (lo .root) (hi .root)) (hi .store))
     (inside-is : inside plan s σ ≡ (inside plan s low && inside plan s high)) where
   both-inside : inside plan s low ≡ true → inside plan s high ≡ true → inside plan s σ ≡ true
   both-inside p q = inside-is ∙ ap₂ _&&_ p q

@@ -94,7 +94,7 @@ module _ (plan : List ℕ) (s : Store Entry) (w w′ : Work) (σ : State) (r : �
     by-count (fits small answer below held tallies) =
         let phase : getD (w′ .tally) 2 0 ≡ 0 = tallies .others 2 (λ e. omega arith) ∙ builds in
         let store : store-in w′ ≡ put-value same-entry e (store-in w) .store
-              = rw (tallies .count, held .values, tallies .others 0 (λ e. omega arith), level-same, low-same, high-same) in
+        = rw (tallies .count, held .values, tallies .others 0 (λ e. omega arith), level-same, low-same, high-same) in
         let (nodes, _) = holds in
         record {
           walks = rw (building-is w builds, building-is w′ phase, store, answer) (made-walks made-is within (held-roomy nodes held) (rw (← answer) below));
@@ -105,9 +105,9 @@ module _ (plan : List ℕ) (s : Store Entry) (w w′ : Work) (σ : State) (r : �
     by-count (over large answer tallies) =
         let phase : getD (w′ .tally) 2 0 ≡ 1 = rw tallies (getD-set-same (w .tally) 2 1 0 (omega (arith, working .four))) in
         let no-room : roomy (node-room w) (value-room w) (made (plan-of plan) s σ (store-in w) .store) ≡ false
-              = ap (λ (D : Diagram Entry). roomy (node-room w) (value-room w) (D .store)) (sym made-is)
-              ∙ ap (λ (b : Bool). leb (length (store-in w .nodes)) (node-room w) && b) (lt-leb (length (keep same-entry e values)) (value-room w) large)
-              ∙ and-false (leb (length (store-in w .nodes)) (node-room w)) in
+        = ap (λ (D : Diagram Entry). roomy (node-room w) (value-room w) (D .store)) (sym made-is)
+        ∙ ap (λ (b : Bool). leb (length (store-in w .nodes)) (node-room w) && b) (lt-leb (length (keep same-entry e values)) (value-room w) large)
+        ∙ and-false (leb (length (store-in w .nodes)) (node-room w)) in
         record {
           walks = rw (building-is w builds, full-is w′ phase, answer) (filled within no-room full-not-out);
           filled = rw (full-is w′ phase) tt;

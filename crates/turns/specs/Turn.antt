@@ -1,6 +1,6 @@
 -- What a turn of the walk asks for and leaves: at the state's slot, before and after its calls. Definitions only.
 use mathlib.Core.Path.{_≡_}
-use mathlib.Core.Bool.{cond}
+use mathlib.Core.Bool.{true, cond}
 use mathlib.Core.List.{List}
 use Prim.Native.Nat.{ℕ, _+_, _*_, _/_, _<_, _≤_}
 use lib.Dec.{eqb}
@@ -9,7 +9,7 @@ use lib.ListN.{length, getD, set}
 use Rattle.algebra.specs.declared.Entry.{Entry}
 use Rattle.algebra.specs.declared.Bounded.{Bounded}
 use Rattle.algebra.specs.declared.Bounded.the-variants.{Within, Outside}
-use Rattle.algebra.specs.Width.{bounded}
+use Rattle.algebra.specs.Width.{fitWidth, bounded}
 use Rattle.diagrams.specs.Diagram.{branch, ref-of, Store}
 use Rattle.diagrams.specs.UniqueTable.{nodes-in, NodesHeld, NodeMade, values-in, ValuesHeld, ValueMade}
 use Rattle.transitions.specs.declared.State.{State}
@@ -81,6 +81,7 @@ module _ (plan : List ℕ) (terminals : List ℤ) (index tally : List ℕ) where
 -- what is asked before it
 pub record Ready (plan : List ℕ) (cols : List (List ℕ)) (vals : List (List ℤ)) (w : Work) (at : ℕ) (σ : State) : Type 0 where
   pub valid-plan : ValidPlan (plan-of plan) (source-in plan cols vals)
+  pub fit : fitWidth (plan-of plan .width) ≡ true
   pub valid-state : ValidState (plan-of plan) (source-in plan cols vals) σ
   pub source : SourceHeld (source-in plan cols vals) cols vals
   pub node-span : 2 * length (source-in plan cols vals .nodes) ≤ plan-of plan .span

@@ -39,7 +39,14 @@ pub record Work : Type 0 where
 
 abbrev pub work : List ℕ → List ℕ → List ℕ → List ℤ → List ℕ → List ℕ → List ℕ → List ℕ → Work
 work level low high terminals node-index value-index memo tally = record {
-  level = level; low = low; high = high; terminals = terminals; node-index = node-index; value-index = value-index; memo = memo; tally = tally;
+  level = level;
+  low = low;
+  high = high;
+  terminals = terminals;
+  node-index = node-index;
+  value-index = value-index;
+  memo = memo;
+  tally = tally;
 }
 
 -- the numbers of nodes and of values that there is room for

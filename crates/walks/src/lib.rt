@@ -37,13 +37,58 @@ pub fn hand_over(
         return OUT;
     }
     if transitions::is_leaf(x, y, mode) {
-        return turns::settle(plan, at, x, y, mode, values, terminals, value_index, memo, tally);
+        return turns::settle(
+            plan,
+            at,
+            x,
+            y,
+            mode,
+            values,
+            terminals,
+            value_index,
+            memo,
+            tally,
+        );
     }
     let lv = transitions::asked(src, plan, x, y, mode);
     if lv % 2 == 0 {
-        row(plan, at, lv, x, y, mode, src, values, level, low, high, terminals, node_index, value_index, memo, tally)
+        row(
+            plan,
+            at,
+            lv,
+            x,
+            y,
+            mode,
+            src,
+            values,
+            level,
+            low,
+            high,
+            terminals,
+            node_index,
+            value_index,
+            memo,
+            tally,
+        )
     } else {
-        column(plan, at, lv, x, y, mode, src, values, level, low, high, terminals, node_index, value_index, memo, tally)
+        column(
+            plan,
+            at,
+            lv,
+            x,
+            y,
+            mode,
+            src,
+            values,
+            level,
+            low,
+            high,
+            terminals,
+            node_index,
+            value_index,
+            memo,
+            tally,
+        )
     }
 }
 
@@ -78,15 +123,62 @@ fn row(
     let a_at = tables::slot(plan, a.x, a.y, a.mode);
     let mut l = tables::recall(memo, plan, a_at, a.x, a.y, a.mode);
     if l == UNSETTLED {
-        l = hand_over(plan, a_at, a.x, a.y, a.mode, src, values, level, low, high, terminals, node_index, value_index, memo, tally);
+        l = hand_over(
+            plan,
+            a_at,
+            a.x,
+            a.y,
+            a.mode,
+            src,
+            values,
+            level,
+            low,
+            high,
+            terminals,
+            node_index,
+            value_index,
+            memo,
+            tally,
+        );
     }
     let b = transitions::next(src, plan, lv, 1, x, y, mode);
     let b_at = tables::slot(plan, b.x, b.y, b.mode);
     let mut h = tables::recall(memo, plan, b_at, b.x, b.y, b.mode);
     if h == UNSETTLED {
-        h = hand_over(plan, b_at, b.x, b.y, b.mode, src, values, level, low, high, terminals, node_index, value_index, memo, tally);
+        h = hand_over(
+            plan,
+            b_at,
+            b.x,
+            b.y,
+            b.mode,
+            src,
+            values,
+            level,
+            low,
+            high,
+            terminals,
+            node_index,
+            value_index,
+            memo,
+            tally,
+        );
     }
-    turns::finish(plan, at, lv, x, y, mode, l, h, level, low, high, node_index, memo, tally)
+    turns::finish(
+        plan,
+        at,
+        lv,
+        x,
+        y,
+        mode,
+        l,
+        h,
+        level,
+        low,
+        high,
+        node_index,
+        memo,
+        tally,
+    )
 }
 
 // A state that asks for a column bit: the same.
@@ -120,13 +212,60 @@ fn column(
     let a_at = tables::slot(plan, a.x, a.y, a.mode);
     let mut l = tables::recall(memo, plan, a_at, a.x, a.y, a.mode);
     if l == UNSETTLED {
-        l = hand_over(plan, a_at, a.x, a.y, a.mode, src, values, level, low, high, terminals, node_index, value_index, memo, tally);
+        l = hand_over(
+            plan,
+            a_at,
+            a.x,
+            a.y,
+            a.mode,
+            src,
+            values,
+            level,
+            low,
+            high,
+            terminals,
+            node_index,
+            value_index,
+            memo,
+            tally,
+        );
     }
     let b = transitions::next(src, plan, lv, 1, x, y, mode);
     let b_at = tables::slot(plan, b.x, b.y, b.mode);
     let mut h = tables::recall(memo, plan, b_at, b.x, b.y, b.mode);
     if h == UNSETTLED {
-        h = hand_over(plan, b_at, b.x, b.y, b.mode, src, values, level, low, high, terminals, node_index, value_index, memo, tally);
+        h = hand_over(
+            plan,
+            b_at,
+            b.x,
+            b.y,
+            b.mode,
+            src,
+            values,
+            level,
+            low,
+            high,
+            terminals,
+            node_index,
+            value_index,
+            memo,
+            tally,
+        );
     }
-    turns::finish(plan, at, lv, x, y, mode, l, h, level, low, high, node_index, memo, tally)
+    turns::finish(
+        plan,
+        at,
+        lv,
+        x,
+        y,
+        mode,
+        l,
+        h,
+        level,
+        low,
+        high,
+        node_index,
+        memo,
+        tally,
+    )
 }

@@ -29,7 +29,7 @@ few c =
     let used = getD (at .tally .now) 0 0 in
     let held = start c .pre (c .before .if1 .left) in
     let full : length (nodes-in used (at .level .now) (at .low .now) (at .high .now)) ≡ used
-          = length-listed used (node-in (at .level .now) (at .low .now) (at .high .now)) in
+    = length-listed used (node-in (at .level .now) (at .low .now) (at .high .now)) in
     omega (arith, held .indexed .room, held .indexed .limit)
 
 -- ---- the needs
