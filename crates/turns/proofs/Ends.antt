@@ -36,6 +36,29 @@ full-is w e = rw (e)
 pub out-is : (w : Work) → (getD (w .tally) 2 0 ≡ 0 → ⊥) → (getD (w .tally) 2 0 ≡ 1 → ⊥) → progress-of w ≡ out
 out-is w some more = rw (ne-eqb (getD (w .tally) 2 0) 0 some, ne-eqb (getD (w .tally) 2 0) 1 more)
 
+-- nothing has left the width
+abbrev Goes : Progress → Type 0
+Goes (building t) = Unit {0}
+Goes full = Unit {0}
+Goes out = ⊥
+
+-- the tally tells whether a number has left the width
+pub alive-by : (w : Work) → getD (w .tally) 2 0 ≤ 1 → progress-of w ≡ out → ⊥
+alive-by w small = by-phase (ℕ-discrete (getD (w .tally) 2 0) 0)
+  where
+    not-built : {t : Store Entry} → building t ≡ out → ⊥
+    not-built e = subst Goes e tt
+
+    not-full : full ≡ out → ⊥
+    not-full e = subst Goes e tt
+
+    by-phase : Dec (getD (w .tally) 2 0 ≡ 0) → progress-of w ≡ out → ⊥
+    by-phase (yes z) e = not-built (sym (building-is w z) ∙ e)
+    by-phase (no z) e = not-full (sym (full-is w (omega arith)) ∙ e)
+
+pub gone-by : (w : Work) → 1 < getD (w .tally) 2 0 → progress-of w ≡ out
+gone-by w large = out-is w (λ z. omega arith) (λ o. omega arith)
+
 -- ---- what a store has room for
 
 pub held-roomy : {N L heads heads′ : ℕ} {ns : List Node} {vs : List Entry} {level low high index : List ℕ} {terminals : List ℤ} {index′ : List ℕ}
@@ -67,10 +90,10 @@ module _ (N L lv l h : ℕ) (t : Store Entry) (low-in : l ≡ OUT → ⊥) (high
 module _ (plan : List ℕ) (s : Store Entry) (w w′ : Work) (lv l h r : ℕ) (working : Working (plan-of plan) s w) (room : SameRoom w w′)
     (terminals-same : w′ .terminals ≡ w .terminals) (index-same : w′ .value-index ≡ w .value-index) where
   abbrev Unchanged : Type 0
-  Unchanged = JoinUnchanged plan (w .level) (w .low) (w .high) (w .node-index) (w .tally) lv l h (w′ .level) (w′ .low) (w′ .high) (w′ .node-index) (w′ .tally)
+  Unchanged = JoinUnchanged plan (w .level) (w .low) (w .high) (w .node-index) (w .tally) (w′ .level) (w′ .low) (w′ .high) (w′ .node-index) (w′ .tally)
 
   abbrev Join : Type 0
-  Join = Joined plan (w .level) (w .low) (w .high) (w .node-index) (w .tally) lv l h (w′ .level) (w′ .low) (w′ .high) (w′ .node-index) (w′ .tally) r
+  Join = Joined plan (w .level) (w .low) (w .high) (w .node-index) (w .tally) (w′ .level) (w′ .low) (w′ .high) (w′ .node-index) (w′ .tally) lv l h r
 
   -- nothing changes
   module _ (u : Unchanged) where
@@ -127,7 +150,7 @@ module _ (plan : List ℕ) (s : Store Entry) (w w′ : Work) (lv l h r : ℕ) (w
               (node-apart (node-room w) (value-room w) lv l h (store-in w) (below-out low-in) (below-out high-in) differ)
               (held-roomy held values) (rw (← answer) below));
           filled = rw (building-is w′ phase) (subst (λ (t : Store Entry). Filled (plan-of plan) w′ (building t)) (sym store)
-              (rw (room .nodes, terminals-same, index-same) (held, values)));
+              (rw (room .level, terminals-same, index-same) (held, values)));
           four = tallies .long ∙ working .four;
         }
     ended-apart differ (over large answer tallies) =
@@ -162,8 +185,8 @@ module _ (plan : List ℕ) (s : Store Entry) (w w′ : Work) (lv l h r : ℕ) (w
 
   -- every way
   pub ended : {σ : State} → (progress-of w ≡ out → (l ≡ OUT) ⊎ (h ≡ OUT)) → ((t : Store Entry) → progress-of w ≡ building t → (l < OUT) × (h < OUT))
-      → Finished plan (w .level) (w .low) (w .high) (w .node-index) (w .tally) lv l h
-      (w′ .level) (w′ .low) (w′ .high) (w′ .node-index) (w′ .tally) (w .memo) σ (w′ .memo) r → Ended (plan-of plan) w w′ lv l h r
+      → Finished plan (w .level) (w .low) (w .high) (w .node-index) (w .tally)
+      (w′ .level) (w′ .low) (w′ .high) (w′ .node-index) (w′ .tally) lv l h (w .memo) σ (w′ .memo) r → Ended (plan-of plan) w w′ lv l h r
   ended outs refs finished = by-low (ℕ-discrete l OUT)
     where
       by-phase : (l ≡ OUT → ⊥) → (h ≡ OUT → ⊥) → Dec (getD (w .tally) 2 0 ≡ 0) → Dec (getD (w .tally) 2 0 ≡ 1) → Ended (plan-of plan) w w′ lv l h r

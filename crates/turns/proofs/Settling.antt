@@ -99,7 +99,7 @@ module _ (plan : List ℕ) (s : Store Entry) (w w′ : Work) (σ : State) (r : �
         record {
           walks = rw (building-is w builds, building-is w′ phase, store, answer) (made-walks made-is within (held-roomy nodes held) (rw (← answer) below));
           filled = rw (building-is w′ phase) (subst (λ (t : Store Entry). Filled (plan-of plan) w′ (building t)) (sym store)
-              (rw (room .values, level-same, low-same, high-same, index-same) (nodes, held)));
+              (rw (room .terminals, level-same, low-same, high-same, index-same) (nodes, held)));
           four = tallies .long ∙ working .four;
         }
     by-count (over large answer tallies) =

@@ -1,13 +1,13 @@
 -- A turn of the walk, whole: what its calls ask for, and what it leaves. Assumes nothing.
 use mathlib.Core.Path.{_≡_, refl, sym, ap, _∙_, subst}
-use mathlib.Core.Bool.{Bool, true, false, _&&_}
+use mathlib.Core.Bool.{Bool, true, false, _&&_, true≢false}
 use mathlib.Core.Logic.{_⊎_, inl, inr, _≢_}
 use mathlib.Core.List.{List}
-use Prim.Native.Nat.{ℕ, _+_, _*_, _/_, _<_, _≤_}
+use Prim.Native.Nat.{ℕ, _+_, _*_, _-_, _<_, _≤_}
 use native.Mathlib.Decide.{ℕ-discrete}
 use native.Mathlib.Omega.{arith}
 use lib.IntN.{ℤ}
-use lib.ListN.{length}
+use lib.ListN.{length, getD}
 use Rattle.algebra.specs.declared.Entry.{Entry}
 use Rattle.algebra.specs.declared.Bounded.{Bounded}
 use Rattle.algebra.specs.declared.Bounded.the-variants.{Within, Outside}
@@ -19,17 +19,19 @@ use Rattle.transitions.specs.Plan.{Plan, plan-of}
 use Rattle.transitions.specs.Source.{Refers}
 use Rattle.transitions.specs.State.{Mode, turning, adding, subtracting, waiting, choosing, mode-of, top, made, inside}
 use Rattle.transitions.specs.Next.{mode-code, next-state, is-leaf, leaf-entry}
-use Rattle.transitions.specs.Valid.{ValidPlan, ValidState, Suits}
+use Rattle.transitions.specs.Valid.{ValidPlan, ValidState, Suits, Usable}
 use Rattle.transitions.proofs.Codes.{mode-turning, mode-waiting}
-use Rattle.transitions.proofs.Walks.{next-valid, made-branch, inside-branch}
+use Rattle.transitions.proofs.Sound.{top-most}
+use Rattle.transitions.proofs.Needs.{usable}
+use Rattle.transitions.proofs.Walks.{next-valid, next-later, top-leaf, made-branch, inside-branch}
 use Rattle.tables.specs.Table.{unsettled, slot-of, recalled, noted, TableFits, InTable, AtSlot, AllRight}
 use Rattle.tables.proofs.Tables.{allRight-noted, allRight-weaken, fits-noted}
 use Rattle.turns.specs.Progress.{OUT, Progress, building, full, out, Walks, gone, Finish}
 use Rattle.turns.specs.Work.{source-in, Work, node-room, value-room, progress-of, Right, Filled, Working, SameRoom}
-use Rattle.turns.specs.Turn.{Finished, SettledBy, Settled, Ready, Asking, Walked}
+use Rattle.turns.specs.Turn.{JoinReady, Finished, PlaceReady, SettledBy, Settled, Ready, Asking, Walked}
 use Rattle.turns.proofs.Progress.{turn-walks}
 use Rattle.turns.proofs.Works.{Roomy, right-walks, walks-carry, finish-carries, walks-right, out-answered, built-answered}
-use Rattle.turns.proofs.Ends.{held-roomy, Ended, ended}
+use Rattle.turns.proofs.Ends.{building-is, alive-by, held-roomy, Ended, ended}
 use Rattle.turns.proofs.Settling.{settles}
 
 -- ---- a state's place in the computed table
@@ -72,6 +74,46 @@ module _ (plan : List ℕ) (cols : List (List ℕ)) (vals : List (List ℤ)) whe
   pub ready-slot : {w : Work} {at : ℕ} {σ : State} → Ready plan cols vals w at σ → AtSlot P (w .memo) at σ
   ready-slot ready = record { table = ready .work .table; place = ready-place ready; slot = ready .slot }
 
+  pub ready-usable : {w : Work} {at : ℕ} {σ : State} → Ready plan cols vals w at σ → Usable P cols σ
+  ready-usable {σ = σ} ready = usable P source (ready .valid-plan) cols σ (ready .source .nodes) (ready .valid-state)
+
+  -- while the walk builds, its nodes and its values are held
+  pub nodes-ready : (w : Work) → Working P source w → JoinReady plan (w .level) (w .low) (w .high) (w .node-index) (w .tally)
+  nodes-ready w work builds = (rw (building-is w builds) at (work .filled)) .0
+
+  pub values-ready : (w : Work) → Working P source w → PlaceReady plan (w .terminals) (w .value-index) (w .tally)
+  values-ready w work builds = (rw (building-is w builds) at (work .filled)) .1
+
+  -- a state with a question left, before anything has left the width
+  pub asking-by : {w : Work} {at : ℕ} (lv : ℕ) {σ : State} → Ready plan cols vals w at σ → lv ≡ top P source σ → false ≡ is-leaf σ → getD (w .tally) 2 0 ≤ 1
+      → Asking plan cols vals w at lv σ
+  asking-by {w} lv {σ} ready asks no-leaf small = record { ready = ready; asks = asks; below = rw asks below; alive = alive-by w small }
+    where
+      most : top P source σ ≤ P .levels
+      most = top-most P source (ready .valid-plan) σ (ready .valid-state)
+
+      not-last : top P source σ ≡ P .levels → ⊥
+      not-last e = true≢false (sym (top-leaf P source (ready .valid-plan) σ (ready .valid-state) e) ∙ sym no-leaf)
+
+      below : top P source σ < P .levels
+      below = omega (arith, most, not-last)
+
+  -- ---- the levels left fall
+
+  abbrev pub levels-left : State → ℕ
+  levels-left σ = P .levels - top P source σ
+
+  pub asking-falls : {w : Work} {at lv : ℕ} {σ : State} → Asking plan cols vals w at lv σ → 2 * (P .levels - lv) < 2 * levels-left σ + 1
+  asking-falls asking = rw (asking .asks) (omega arith)
+
+  pub next-falls : {w : Work} {at lv : ℕ} {σ : State} (b : Bool) (τ : State) → Asking plan cols vals w at lv σ → τ ≡ next-state P source lv b σ
+      → 2 * levels-left τ + 1 < 2 * (P .levels - lv)
+  next-falls {lv = lv} {σ = σ} b τ asking is =
+      let below : top P source σ < P .levels = rw (← asking .asks) (asking .below) in
+      let later : top P source σ < top P source τ
+            = rw (is, asking .asks) (next-later P source (asking .ready .valid-plan) b σ (asking .ready .valid-state) below) in
+      omega (arith, asking .asks, asking .below)
+
   -- ---- what the calls of a turn ask for
 
   -- after the bit of its level, at any later work
@@ -112,7 +154,7 @@ module _ (plan : List ℕ) (cols : List (List ℕ)) (vals : List (List ℤ)) whe
   -- ---- nothing to do
 
   same-room : (w : Work) → SameRoom w w
-  same-room w = record { nodes = refl; values = refl }
+  same-room w = record { level = refl; low = refl; high = refl; terminals = refl; node-index = refl; value-index = refl; memo = refl }
 
   working-roomy : (w : Work) (p : Progress) → Filled P w p → Roomy (node-room w) (value-room w) p
   working-roomy w (building t) f = held-roomy (f .0) (f .1)
@@ -162,8 +204,8 @@ module _ (plan : List ℕ) (cols : List (List ℕ)) (vals : List (List ℤ)) whe
 
   module _ (w w₁ w₂ w′ : Work) (lv l h r : ℕ) (σ low high : State) where
     abbrev Ends : Type 0
-    Ends = Finished plan (w₂ .level) (w₂ .low) (w₂ .high) (w₂ .node-index) (w₂ .tally) lv l h
-        (w′ .level) (w′ .low) (w′ .high) (w′ .node-index) (w′ .tally) (w₂ .memo) σ (w′ .memo) r
+    Ends = Finished plan (w₂ .level) (w₂ .low) (w₂ .high) (w₂ .node-index) (w₂ .tally)
+        (w′ .level) (w′ .low) (w′ .high) (w′ .node-index) (w′ .tally) lv l h (w₂ .memo) σ (w′ .memo) r
 
     finished-kept : Ends → Kept w₂ w′ σ r
     finished-kept ends = by-low (ℕ-discrete l OUT)
@@ -177,7 +219,15 @@ module _ (plan : List ℕ) (cols : List (List ℕ)) (vals : List (List ℤ)) whe
         by-low (no p) = by-high p (ℕ-discrete h OUT)
 
     room-trans : {u v x : Work} → SameRoom u v → SameRoom v x → SameRoom u x
-    room-trans a b = record { nodes = b .nodes ∙ a .nodes; values = b .values ∙ a .values }
+    room-trans a b = record {
+      level = b .level ∙ a .level;
+      low = b .low ∙ a .low;
+      high = b .high ∙ a .high;
+      terminals = b .terminals ∙ a .terminals;
+      node-index = b .node-index ∙ a .node-index;
+      value-index = b .value-index ∙ a .value-index;
+      memo = b .memo ∙ a .memo;
+    }
 
     pub turned : {at : ℕ} → Asking plan cols vals w at lv σ → low ≡ next-state P source lv false σ → high ≡ next-state P source lv true σ
         → Walked plan cols vals w low l w₁ → Walked plan cols vals w₁ high h w₂ → SameRoom w₂ w′ → w′ .terminals ≡ w₂ .terminals
@@ -190,7 +240,7 @@ module _ (plan : List ℕ) (cols : List (List ℕ)) (vals : List (List ℤ)) whe
     }
       where
         second-walks : Walks (node-room w) (value-room w) P source high (progress-of w₁) (progress-of w₂) h
-        second-walks = rw (first .room .nodes, first .room .values) at (second .walks)
+        second-walks = rw (first .room .level, first .room .terminals) at (second .walks)
 
         after : Ended P w₂ w′ lv l h r
         after = ended plan source w₂ w′ lv l h r (second .work) room terminals index
@@ -198,7 +248,7 @@ module _ (plan : List ℕ) (cols : List (List ℕ)) (vals : List (List ℤ)) whe
             (λ t e. built-answered (first .walks) (rw e at second-walks)) ends
 
         finish : Finish (node-room w) (value-room w) lv l h (progress-of w₂) (progress-of w′) r
-        finish = rw (second .room .nodes, second .room .values, first .room .nodes, first .room .values) at (after .finish)
+        finish = rw (second .room .level, second .room .terminals, first .room .level, first .room .terminals) at (after .finish)
 
         walks : Walks (node-room w) (value-room w) P source σ (progress-of w) (progress-of w′) r
         walks = turn-walks (node-room w) (value-room w) P source σ low high lv made-is inside-is (asking .alive) (first .walks) second-walks finish

@@ -30,7 +30,7 @@ tallied k new r tally = cond (eqb r FULL) (set tally 2 1) (cond (eqb r new) (set
 
 -- ---- the node over two answers
 
-module _ (plan level low high index tally : List ℕ) (lv l h : ℕ) where
+module _ (plan level low high index tally : List ℕ) where
   -- while the walk builds, its nodes are held
   abbrev pub JoinReady : Type 0
   JoinReady = getD tally 2 0 ≡ 0 → NodesHeld (length level) (plan-of plan .node-heads) (nodes-in (getD tally 0 0) level low high) level low high index
@@ -39,7 +39,7 @@ module _ (plan level low high index tally : List ℕ) (lv l h : ℕ) where
     abbrev pub JoinUnchanged : Type 0
     JoinUnchanged = (tally′ ≡ tally) × (level′ ≡ level) × (low′ ≡ low) × (high′ ≡ high) × (index′ ≡ index)
 
-    pub record Joined (r : ℕ) : Type 0 where
+    pub record Joined (lv l h r : ℕ) : Type 0 where
       pub past : (getD tally 2 0 ≡ 0 → ⊥) → (r ≡ FULL) × JoinUnchanged
       pub alike : getD tally 2 0 ≡ 0 → l ≡ h → (r ≡ l) × JoinUnchanged
       pub apart : getD tally 2 0 ≡ 0 → (l ≡ h → ⊥) → (tally′ ≡ tallied 0 (2 * getD tally 0 0 + 1) r tally)
@@ -47,10 +47,10 @@ module _ (plan level low high index tally : List ℕ) (lv l h : ℕ) where
           (length level) (plan-of plan .node-heads) (branch lv (ref-of l) (ref-of h)) (nodes-in (getD tally 0 0) level low high) r
 
     -- with the computed table: the answer is kept for the state, unless a number lay outside the width
-    pub record Finished (memo : List ℕ) (σ : State) (memo′ : List ℕ) (r : ℕ) : Type 0 where
+    pub record Finished (lv l h : ℕ) (memo : List ℕ) (σ : State) (memo′ : List ℕ) (r : ℕ) : Type 0 where
       pub low-out : l ≡ OUT → (r ≡ OUT) × (memo′ ≡ memo) × JoinUnchanged
       pub high-out : h ≡ OUT → (r ≡ OUT) × (memo′ ≡ memo) × JoinUnchanged
-      pub inside : (l ≡ OUT → ⊥) → (h ≡ OUT → ⊥) → Joined r × (memo′ ≡ noted (plan-of plan) memo σ r)
+      pub inside : (l ≡ OUT → ⊥) → (h ≡ OUT → ⊥) → Joined lv l h r × (memo′ ≡ noted (plan-of plan) memo σ r)
 
 -- ---- the value of a state with no question left
 

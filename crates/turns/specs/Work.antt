@@ -85,7 +85,12 @@ pub record Working (plan : Plan) (s : Store Entry) (w : Work) : Type 0 where
   pub filled : Filled plan w (progress-of w)
   pub right : AllRight (Right plan s (progress-of w)) plan (w .memo)
 
--- there is as much room as before
+-- there is as much room as before, in every list
 pub record SameRoom (w w′ : Work) : Type 0 where
-  pub nodes : length (w′ .level) ≡ length (w .level)
-  pub values : length (w′ .terminals) ≡ length (w .terminals)
+  pub level : length (w′ .level) ≡ length (w .level)
+  pub low : length (w′ .low) ≡ length (w .low)
+  pub high : length (w′ .high) ≡ length (w .high)
+  pub terminals : length (w′ .terminals) ≡ length (w .terminals)
+  pub node-index : length (w′ .node-index) ≡ length (w .node-index)
+  pub value-index : length (w′ .value-index) ≡ length (w .value-index)
+  pub memo : length (w′ .memo) ≡ length (w .memo)

@@ -30,9 +30,9 @@ fn join(
     index: &mut [u32],
     tally: &mut [u32; 4],
 ) -> u32
-    requires { ⌜ JoinReady (now plan) (now level) (now low) (now high) (now index) (now tally) lv l h ⌝ }
-    ensures { λ r. ⌜ Joined (now (plan .entry)) (now (level .entry)) (now (low .entry)) (now (high .entry)) (now (index .entry)) (now (tally .entry)) lv l h
-        (now (level .exit)) (now (low .exit)) (now (high .exit)) (now (index .exit)) (now (tally .exit)) r ⌝ }
+    requires { ⌜ JoinReady (now plan) (now level) (now low) (now high) (now index) (now tally) ⌝ }
+    ensures { λ r. ⌜ Joined (now (plan .entry)) (now (level .entry)) (now (low .entry)) (now (high .entry)) (now (index .entry)) (now (tally .entry))
+        (now (level .exit)) (now (low .exit)) (now (high .exit)) (now (index .exit)) (now (tally .exit)) lv l h r ⌝ }
 {
     if tally[2] != 0 {
         return FULL;
@@ -69,11 +69,11 @@ pub fn finish(
     memo: &mut [u32],
     tally: &mut [u32; 4],
 ) -> u32
-    requires { ⌜ JoinReady (now plan) (now level) (now low) (now high) (now index) (now tally) lv l h ⌝ }
+    requires { ⌜ JoinReady (now plan) (now level) (now low) (now high) (now index) (now tally) ⌝ }
     requires { ⌜ AtSlot (plan-of (now plan)) (now memo) at (numbered x y mode) ⌝ }
-    ensures { λ r. ⌜ Finished (now (plan .entry)) (now (level .entry)) (now (low .entry)) (now (high .entry)) (now (index .entry)) (now (tally .entry)) lv l h
+    ensures { λ r. ⌜ Finished (now (plan .entry)) (now (level .entry)) (now (low .entry)) (now (high .entry)) (now (index .entry)) (now (tally .entry))
         (now (level .exit)) (now (low .exit)) (now (high .exit)) (now (index .exit)) (now (tally .exit))
-        (now (memo .entry)) (numbered x y mode) (now (memo .exit)) r ⌝ }
+        lv l h (now (memo .entry)) (numbered x y mode) (now (memo .exit)) r ⌝ }
 {
     if l == OUT {
         return OUT;

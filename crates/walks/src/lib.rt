@@ -33,7 +33,7 @@ pub fn hand_over(
         (numbered x y mode) r
         (work (now (level .exit)) (now (low .exit)) (now (high .exit)) (now (terminals .exit)) (now («node_index» .exit)) (now («value_index» .exit)) (now (memo .exit)) (now (tally .exit))) ⌝ }
 {
-    if tally[2] == 2 {
+    if tally[2] > 1 {
         return OUT;
     }
     if transitions::is_leaf(x, y, mode) {

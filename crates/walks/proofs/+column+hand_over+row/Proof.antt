@@ -1,0 +1,437 @@
+-- The walkers meet their contracts: a turn's places are read as the laws of turns (turns/proofs/Turning.antt) say.
+-- The measure is the number of levels left, counted so that handing over comes between two turns. Assumes nothing.
+use mathlib.Core.Path.{_≡_, refl, sym, _∙_}
+use mathlib.Core.Bool.{true, false}
+use mathlib.Core.List.{map}
+use Prim.Native.Nat.{ℕ, _+_, _*_, _-_, _<_}
+use native.Mathlib.Omega.{arith}
+use denote.Ref.{now}
+use borrow.Author.Needs.{needs}
+use borrow.Fn.Kinds.{In}
+use borrow.Fn.PlainCycle.{Measures, is, falls, and}
+use Rattle.transitions.specs.Plan.{plan-of}
+use Rattle.transitions.specs.Next.{numbered}
+use Rattle.transitions.proofs.Needs.{leaf-slots}
+use Rattle.tables.proofs.recall.Reads as recall
+use Rattle.tables.proofs.slot.Reads as slot
+use Rattle.transitions.proofs.asked.Reads as asked
+use Rattle.transitions.proofs.is_leaf.Reads as is-leaf
+use Rattle.transitions.proofs.next.Reads as next
+use Rattle.turns.proofs.finish.Reads as finish
+use Rattle.turns.proofs.settle.Reads as settle
+use Rattle.turns.specs.Work.{source-in, work, SameRoom}
+use Rattle.turns.specs.Turn.{Ready, Asking, Walked}
+use Rattle.turns.proofs.Ends.{alive-by, gone-by}
+use Rattle.turns.proofs.Turning.{ready-place, ready-slot, ready-usable, nodes-ready, values-ready, asking-by, levels-left, asking-falls, next-falls}
+use Rattle.turns.proofs.Turning.{next-ready, recalled-walked, gone-walked, settled-walked, turned}
+use Rattle.walks.proofs.Views.{either, next-is}
+use Rattle.walks.proofs.column.Reads as column
+use Rattle.walks.proofs.column.Kinds as column-kinds
+use Rattle.walks.proofs.+column+hand_over+row.Lts-column as column-lts
+use Rattle.walks.proofs.hand_over.Reads as hand-over
+use Rattle.walks.proofs.hand_over.Kinds as hand-over-kinds
+use Rattle.walks.proofs.+column+hand_over+row.Lts-hand_over as hand-over-lts
+use Rattle.walks.proofs.row.Reads as row
+use Rattle.walks.proofs.row.Kinds as row-kinds
+use Rattle.walks.proofs.+column+hand_over+row.Lts-row as row-lts
+use Rattle.walks.proofs.+column+hand_over+row.{statement}
+use Rattle.walks.proofs.+column+hand_over+row.Tie.{close}
+
+-- ---- measures
+
+abbrev μ-column : Measures 13 column-kinds.ps ℕ
+μ-column κs a = 2 * (plan-of (a .0 .now) .levels - a .1 .1 .0)
+
+abbrev μ-row : Measures 13 row-kinds.ps ℕ
+μ-row κs a = 2 * (plan-of (a .0 .now) .levels - a .1 .1 .0)
+
+abbrev μ-hand-over : Measures 13 hand-over-kinds.ps ℕ
+μ-hand-over κs a = 2 * levels-left (a .0 .now) (map now (a .1 .1 .1 .1 .1 .0 .now)) (map now (a .1 .1 .1 .1 .1 .1 .0 .now))
+    (numbered (a .1 .1 .0) (a .1 .1 .1 .0) (a .1 .1 .1 .1 .0)) + 1
+
+abbrev column-at : ℕ → In 13 column-kinds.ps
+column-at t = and 13 column-kinds.ps (is 13 column-kinds.ps μ-column t) column.Pre
+
+abbrev column-below : ℕ → In 13 column-kinds.ps
+column-below t = and 13 column-kinds.ps (falls 13 column-kinds.ps _<_ μ-column t) column.Pre
+
+abbrev row-at : ℕ → In 13 row-kinds.ps
+row-at t = and 13 row-kinds.ps (is 13 row-kinds.ps μ-row t) row.Pre
+
+abbrev row-below : ℕ → In 13 row-kinds.ps
+row-below t = and 13 row-kinds.ps (falls 13 row-kinds.ps _<_ μ-row t) row.Pre
+
+abbrev hand-over-at : ℕ → In 13 hand-over-kinds.ps
+hand-over-at t = and 13 hand-over-kinds.ps (is 13 hand-over-kinds.ps μ-hand-over t) hand-over.Pre
+
+abbrev hand-over-below : ℕ → In 13 hand-over-kinds.ps
+hand-over-below t = and 13 hand-over-kinds.ps (falls 13 hand-over-kinds.ps _<_ μ-hand-over t) hand-over.Pre
+
+-- ---- row
+
+module _ (t : ℕ) where
+  abbrev row-calls : row-lts.Claims
+  row-calls =
+      (next.Asked, next.Learnt, slot.Asked, slot.Learnt, recall.Asked, recall.Learnt, hand-over-below t, hand-over.Post, finish.Asked, finish.Learnt)
+
+  row-next-requires : row-lts.Need-next-requires row-calls (row-at t) row.Post
+  row-next-requires c κs = let e = c .before .before .before .before .before .before in (omega arith, ready-usable _ _ _ (e .pre .1 .ready))
+
+  row-slot-requires : row-lts.Need-slot-requires row-calls (row-at t) row.Post
+  row-slot-requires c κs = c .before .before .before .before .before .before .before .pre .1 .ready .work .table .sizes
+
+  -- the state after the bit 0
+  row-low-ready : (c : row-lts.After-slot row-calls (row-at t) row.Post) → let e = c .before .before .before .before .before .before .before .before .args in
+      Ready (e .plan .now) (map now (e .src .now)) (map now (e .values .now))
+      (work (e .level .now) (e .low .now) (e .high .now) (e .terminals .now) (e .node-index .now) (e .value-index .now) (e .memo .now) (e .tally .now))
+      (c .slot .result) (c .before .next .result)
+  row-low-ready c =
+      let a = c .before .before .before .before .before .before .before .before .pre .1 in
+      next-ready _ _ _ _ false _ _ a (a .ready .work) (next-is _ _ _ false a (c .before .next .result) (c .before .next .ensures)) (c .slot .ensures)
+
+  row-recall-requires : row-lts.Need-recall-requires row-calls (row-at t) row.Post
+  row-recall-requires c κs = ready-slot _ _ _ (row-low-ready (c .before))
+
+  row-hand-over-requires : row-lts.Need-hand-over-requires row-calls (row-at t) row.Post
+  row-hand-over-requires c κs =
+      let s = c .before .before .before .before .before .before .before .before .before .before .before in
+      let e = s .before .before .before .before .before .before .before .before in
+      let a = e .pre .1 in
+      let fall = next-falls _ _ _ false (s .before .next .result) a (next-is _ _ _ false a (s .before .next .result) (s .before .next .ensures)) in
+      (omega (arith, e .pre .0, fall), row-low-ready s)
+
+  -- recalled or walked
+  row-low : (c : row-lts.Joined1 row-calls (row-at t) row.Post) → let s = c .before .before .before in let e = s .before .before .before .before .before .before .before .before .args in
+      Walked (e .plan .now) (map now (e .src .now)) (map now (e .values .now))
+      (work (e .level .now) (e .low .now) (e .high .now) (e .terminals .now) (e .node-index .now) (e .value-index .now) (e .memo .now) (e .tally .now))
+      (s .before .next .result) (c .if1 .l)
+      (work (c .if1 .level) (c .if1 .low) (c .if1 .high) (c .if1 .terminals) (c .if1 .node-index) (c .if1 .value-index) (c .if1 .memo) (c .if1 .tally))
+  row-low c = either (c .if1 .came)
+      (λ x. rw (x .23, x .24, x .25, x .26, x .27, x .28, x .29, x .30, x .31) (x .9 .ensures))
+      (λ y. rw (y .1, y .2, y .3, y .4, y .5, y .6, y .7, y .8, y .9)
+      (recalled-walked _ _ _ _ _ (row-low-ready (c .before .before .before)) (c .before .recall .ensures) (y .0 .left)))
+
+  row-next-requires-2 : row-lts.Need-next-requires-2 row-calls (row-at t) row.Post
+  row-next-requires-2 c κs = let e = c .before .before .before .before .before .before .before .before .before .before .before in (omega arith, ready-usable _ _ _ (e .pre .1 .ready))
+
+  row-slot-requires-2 : row-lts.Need-slot-requires-2 row-calls (row-at t) row.Post
+  row-slot-requires-2 c κs = c .before .before .before .before .before .before .before .before .before .before .before .before .pre .1 .ready .work .table .sizes
+
+  -- the state after the bit 1
+  row-high-ready : (c : row-lts.After-slot2 row-calls (row-at t) row.Post) →
+      let j = c .before .before in let e = j .before .before .before .before .before .before .before .before .before .before .before .args in
+      Ready (e .plan .now) (map now (e .src .now)) (map now (e .values .now))
+      (work (j .if1 .level) (j .if1 .low) (j .if1 .high) (j .if1 .terminals) (j .if1 .node-index) (j .if1 .value-index) (j .if1 .memo) (j .if1 .tally))
+      (c .slot2 .result) (c .before .next2 .result)
+  row-high-ready c =
+      let j = c .before .before in
+      let a = j .before .before .before .before .before .before .before .before .before .before .before .pre .1 in
+      next-ready _ _ _ _ true _ _ a (row-low j .work) (next-is _ _ _ true a (c .before .next2 .result) (c .before .next2 .ensures)) (c .slot2 .ensures)
+
+  row-recall-requires-2 : row-lts.Need-recall-requires-2 row-calls (row-at t) row.Post
+  row-recall-requires-2 c κs = ready-slot _ _ _ (row-high-ready (c .before))
+
+  row-hand-over-requires-2 : row-lts.Need-hand-over-requires-2 row-calls (row-at t) row.Post
+  row-hand-over-requires-2 c κs =
+      let s = c .before .before .before .before .before .before .before .before .before .before .before in
+      let e = s .before .before .before .before .before .before .before .before .before .before .before .before .before in
+      let a = e .pre .1 in
+      let fall = next-falls _ _ _ true (s .before .next2 .result) a (next-is _ _ _ true a (s .before .next2 .result) (s .before .next2 .ensures)) in
+      (omega (arith, e .pre .0, fall), row-high-ready s)
+
+  row-high : (c : row-lts.Joined2 row-calls (row-at t) row.Post) →
+      let s = c .before .before .before in let j = s .before .before in let e = j .before .before .before .before .before .before .before .before .before .before .before .args in
+      Walked (e .plan .now) (map now (e .src .now)) (map now (e .values .now))
+      (work (j .if1 .level) (j .if1 .low) (j .if1 .high) (j .if1 .terminals) (j .if1 .node-index) (j .if1 .value-index) (j .if1 .memo) (j .if1 .tally))
+      (s .before .next2 .result) (c .if2 .h)
+      (work (c .if2 .level) (c .if2 .low) (c .if2 .high) (c .if2 .terminals) (c .if2 .node-index) (c .if2 .value-index) (c .if2 .memo) (c .if2 .tally))
+  row-high c = either (c .if2 .came)
+      (λ x. rw (x .23, x .24, x .25, x .26, x .27, x .28, x .29, x .30, x .31) (x .9 .ensures))
+      (λ y. rw (y .1, y .2, y .3, y .4, y .5, y .6, y .7, y .8, y .9)
+      (recalled-walked _ _ _ _ _ (row-high-ready (c .before .before .before)) (c .before .recall2 .ensures) (y .0 .left)))
+
+  row-finish-requires : row-lts.Need-finish-requires row-calls (row-at t) row.Post
+  row-finish-requires c κs =
+      let j = c .before .before .before .before .before .before in
+      let a = j .before .before .before .before .before .before .before .before .before .before .before .before .before .before .before .before .pre .1 in
+      let done = row-high j .work in
+      (nodes-ready _ _ _ _ done, record { table = done .table; place = ready-place _ _ _ (a .ready); slot = a .ready .slot })
+
+  -- the lists are as long after the last call as before it
+  row-room : (c : row-lts.After-slice-known23 row-calls (row-at t) row.Post) → let j = c .before .before .before .before .before .before .before .before .before .before .before .before .before .before .before .before .before in let f = c .before .before .before .before .before .before .before .before .before .before .finish .last .1 .1 .1 .1 .1 .1 .1 .1 in
+      SameRoom
+      (work (j .if2 .level) (j .if2 .low) (j .if2 .high) (j .if2 .terminals) (j .if2 .node-index) (j .if2 .value-index) (j .if2 .memo) (j .if2 .tally))
+      (work (f .0) (f .1 .0) (f .1 .1 .0) (j .if2 .terminals) (f .1 .1 .1 .0) (j .if2 .value-index) (f .1 .1 .1 .1 .0) (f .1 .1 .1 .1 .1 .0))
+  row-room c = record {
+    level = c .before .before .before .before .before .before .before .before .before .level3 .given;
+    low = c .before .before .before .before .before .before .before .low3 .given;
+    high = c .before .before .before .before .before .high3 .given;
+    terminals = refl;
+    node-index = c .before .before .before .node-index3 .given;
+    value-index = refl;
+    memo = c .before .memo3 .given;
+  }
+
+  row-returns : row-lts.Need-returns row-calls (row-at t) row.Post
+  row-returns c =
+      let f = c .before .before .before .before .before .before .before .before .before .before in
+      let j₂ = f .before .before .before .before .before .before .before in
+      let n₂ = j₂ .before .before .before .before in
+      let j₁ = n₂ .before in
+      let n₁ = j₁ .before .before .before .before in
+      let a = n₁ .before .before .before .before .before .before .before .pre .1 in
+      turned _ _ _ _ _ _ _ _ _ _ _ _ _ _ a (next-is _ _ _ false a (n₁ .next .result) (n₁ .next .ensures))
+      (next-is _ _ _ true a (n₂ .next2 .result) (n₂ .next2 .ensures)) (row-low j₁) (row-high j₂) (row-room c) refl refl (f .finish .ensures)
+
+
+-- ---- column
+
+module _ (t : ℕ) where
+  abbrev column-calls : column-lts.Claims
+  column-calls =
+      (next.Asked, next.Learnt, slot.Asked, slot.Learnt, recall.Asked, recall.Learnt, hand-over-below t, hand-over.Post, finish.Asked, finish.Learnt)
+
+  column-next-requires : column-lts.Need-next-requires column-calls (column-at t) column.Post
+  column-next-requires c κs = let e = c .before .before .before .before .before .before in (omega arith, ready-usable _ _ _ (e .pre .1 .ready))
+
+  column-slot-requires : column-lts.Need-slot-requires column-calls (column-at t) column.Post
+  column-slot-requires c κs = c .before .before .before .before .before .before .before .pre .1 .ready .work .table .sizes
+
+  -- the state after the bit 0
+  column-low-ready : (c : column-lts.After-slot column-calls (column-at t) column.Post) → let e = c .before .before .before .before .before .before .before .before .args in
+      Ready (e .plan .now) (map now (e .src .now)) (map now (e .values .now))
+      (work (e .level .now) (e .low .now) (e .high .now) (e .terminals .now) (e .node-index .now) (e .value-index .now) (e .memo .now) (e .tally .now))
+      (c .slot .result) (c .before .next .result)
+  column-low-ready c =
+      let a = c .before .before .before .before .before .before .before .before .pre .1 in
+      next-ready _ _ _ _ false _ _ a (a .ready .work) (next-is _ _ _ false a (c .before .next .result) (c .before .next .ensures)) (c .slot .ensures)
+
+  column-recall-requires : column-lts.Need-recall-requires column-calls (column-at t) column.Post
+  column-recall-requires c κs = ready-slot _ _ _ (column-low-ready (c .before))
+
+  column-hand-over-requires : column-lts.Need-hand-over-requires column-calls (column-at t) column.Post
+  column-hand-over-requires c κs =
+      let s = c .before .before .before .before .before .before .before .before .before .before .before in
+      let e = s .before .before .before .before .before .before .before .before in
+      let a = e .pre .1 in
+      let fall = next-falls _ _ _ false (s .before .next .result) a (next-is _ _ _ false a (s .before .next .result) (s .before .next .ensures)) in
+      (omega (arith, e .pre .0, fall), column-low-ready s)
+
+  -- recalled or walked
+  column-low : (c : column-lts.Joined1 column-calls (column-at t) column.Post) → let s = c .before .before .before in let e = s .before .before .before .before .before .before .before .before .args in
+      Walked (e .plan .now) (map now (e .src .now)) (map now (e .values .now))
+      (work (e .level .now) (e .low .now) (e .high .now) (e .terminals .now) (e .node-index .now) (e .value-index .now) (e .memo .now) (e .tally .now))
+      (s .before .next .result) (c .if1 .l)
+      (work (c .if1 .level) (c .if1 .low) (c .if1 .high) (c .if1 .terminals) (c .if1 .node-index) (c .if1 .value-index) (c .if1 .memo) (c .if1 .tally))
+  column-low c = either (c .if1 .came)
+      (λ x. rw (x .23, x .24, x .25, x .26, x .27, x .28, x .29, x .30, x .31) (x .9 .ensures))
+      (λ y. rw (y .1, y .2, y .3, y .4, y .5, y .6, y .7, y .8, y .9)
+      (recalled-walked _ _ _ _ _ (column-low-ready (c .before .before .before)) (c .before .recall .ensures) (y .0 .left)))
+
+  column-next-requires-2 : column-lts.Need-next-requires-2 column-calls (column-at t) column.Post
+  column-next-requires-2 c κs = let e = c .before .before .before .before .before .before .before .before .before .before .before in (omega arith, ready-usable _ _ _ (e .pre .1 .ready))
+
+  column-slot-requires-2 : column-lts.Need-slot-requires-2 column-calls (column-at t) column.Post
+  column-slot-requires-2 c κs = c .before .before .before .before .before .before .before .before .before .before .before .before .pre .1 .ready .work .table .sizes
+
+  -- the state after the bit 1
+  column-high-ready : (c : column-lts.After-slot2 column-calls (column-at t) column.Post) →
+      let j = c .before .before in let e = j .before .before .before .before .before .before .before .before .before .before .before .args in
+      Ready (e .plan .now) (map now (e .src .now)) (map now (e .values .now))
+      (work (j .if1 .level) (j .if1 .low) (j .if1 .high) (j .if1 .terminals) (j .if1 .node-index) (j .if1 .value-index) (j .if1 .memo) (j .if1 .tally))
+      (c .slot2 .result) (c .before .next2 .result)
+  column-high-ready c =
+      let j = c .before .before in
+      let a = j .before .before .before .before .before .before .before .before .before .before .before .pre .1 in
+      next-ready _ _ _ _ true _ _ a (column-low j .work) (next-is _ _ _ true a (c .before .next2 .result) (c .before .next2 .ensures)) (c .slot2 .ensures)
+
+  column-recall-requires-2 : column-lts.Need-recall-requires-2 column-calls (column-at t) column.Post
+  column-recall-requires-2 c κs = ready-slot _ _ _ (column-high-ready (c .before))
+
+  column-hand-over-requires-2 : column-lts.Need-hand-over-requires-2 column-calls (column-at t) column.Post
+  column-hand-over-requires-2 c κs =
+      let s = c .before .before .before .before .before .before .before .before .before .before .before in
+      let e = s .before .before .before .before .before .before .before .before .before .before .before .before .before in
+      let a = e .pre .1 in
+      let fall = next-falls _ _ _ true (s .before .next2 .result) a (next-is _ _ _ true a (s .before .next2 .result) (s .before .next2 .ensures)) in
+      (omega (arith, e .pre .0, fall), column-high-ready s)
+
+  column-high : (c : column-lts.Joined2 column-calls (column-at t) column.Post) →
+      let s = c .before .before .before in let j = s .before .before in let e = j .before .before .before .before .before .before .before .before .before .before .before .args in
+      Walked (e .plan .now) (map now (e .src .now)) (map now (e .values .now))
+      (work (j .if1 .level) (j .if1 .low) (j .if1 .high) (j .if1 .terminals) (j .if1 .node-index) (j .if1 .value-index) (j .if1 .memo) (j .if1 .tally))
+      (s .before .next2 .result) (c .if2 .h)
+      (work (c .if2 .level) (c .if2 .low) (c .if2 .high) (c .if2 .terminals) (c .if2 .node-index) (c .if2 .value-index) (c .if2 .memo) (c .if2 .tally))
+  column-high c = either (c .if2 .came)
+      (λ x. rw (x .23, x .24, x .25, x .26, x .27, x .28, x .29, x .30, x .31) (x .9 .ensures))
+      (λ y. rw (y .1, y .2, y .3, y .4, y .5, y .6, y .7, y .8, y .9)
+      (recalled-walked _ _ _ _ _ (column-high-ready (c .before .before .before)) (c .before .recall2 .ensures) (y .0 .left)))
+
+  column-finish-requires : column-lts.Need-finish-requires column-calls (column-at t) column.Post
+  column-finish-requires c κs =
+      let j = c .before .before .before .before .before .before in
+      let a = j .before .before .before .before .before .before .before .before .before .before .before .before .before .before .before .before .pre .1 in
+      let done = column-high j .work in
+      (nodes-ready _ _ _ _ done, record { table = done .table; place = ready-place _ _ _ (a .ready); slot = a .ready .slot })
+
+  -- the lists are as long after the last call as before it
+  column-room : (c : column-lts.After-slice-known23 column-calls (column-at t) column.Post) → let j = c .before .before .before .before .before .before .before .before .before .before .before .before .before .before .before .before .before in let f = c .before .before .before .before .before .before .before .before .before .before .finish .last .1 .1 .1 .1 .1 .1 .1 .1 in
+      SameRoom
+      (work (j .if2 .level) (j .if2 .low) (j .if2 .high) (j .if2 .terminals) (j .if2 .node-index) (j .if2 .value-index) (j .if2 .memo) (j .if2 .tally))
+      (work (f .0) (f .1 .0) (f .1 .1 .0) (j .if2 .terminals) (f .1 .1 .1 .0) (j .if2 .value-index) (f .1 .1 .1 .1 .0) (f .1 .1 .1 .1 .1 .0))
+  column-room c = record {
+    level = c .before .before .before .before .before .before .before .before .before .level3 .given;
+    low = c .before .before .before .before .before .before .before .low3 .given;
+    high = c .before .before .before .before .before .high3 .given;
+    terminals = refl;
+    node-index = c .before .before .before .node-index3 .given;
+    value-index = refl;
+    memo = c .before .memo3 .given;
+  }
+
+  column-returns : column-lts.Need-returns column-calls (column-at t) column.Post
+  column-returns c =
+      let f = c .before .before .before .before .before .before .before .before .before .before in
+      let j₂ = f .before .before .before .before .before .before .before in
+      let n₂ = j₂ .before .before .before .before in
+      let j₁ = n₂ .before in
+      let n₁ = j₁ .before .before .before .before in
+      let a = n₁ .before .before .before .before .before .before .before .pre .1 in
+      turned _ _ _ _ _ _ _ _ _ _ _ _ _ _ a (next-is _ _ _ false a (n₁ .next .result) (n₁ .next .ensures))
+      (next-is _ _ _ true a (n₂ .next2 .result) (n₂ .next2 .ensures)) (column-low j₁) (column-high j₂) (column-room c) refl refl (f .finish .ensures)
+
+
+-- ---- handing over
+
+module _ (t : ℕ) where
+  abbrev hand-over-calls : hand-over-lts.Claims
+  hand-over-calls =
+      (is-leaf.Asked, is-leaf.Learnt, settle.Asked, settle.Learnt, asked.Asked, asked.Learnt, row-below t, row.Post, column-below t, column.Post)
+
+  hand-over-tally : hand-over-lts.Need-element-copy-out-if1 hand-over-calls (hand-over-at t) hand-over.Post
+  hand-over-tally c = search needs
+
+  hand-over-gone : hand-over-lts.Need-returns hand-over-calls (hand-over-at t) hand-over.Post
+  hand-over-gone c = gone-walked _ _ _ _ (c .before .before .before .before .before .before .before .before .pre .1) (gone-by _ (c .if1 .taken))
+
+  hand-over-settle-requires : hand-over-lts.Need-settle-requires hand-over-calls (hand-over-at t) hand-over.Post
+  hand-over-settle-requires c κs =
+      let i = c .before .before .before .before in
+      let ready = i .before .before .before .before .before .before .before .before .before .before .pre .1 in
+      let leaf = sym (i .before .is-leaf .ensures) ∙ i .if2 .taken in
+      (values-ready _ _ _ _ (ready .work), (ready-slot _ _ _ ready, leaf-slots _ _ _ (ready .source .values) _ (ready .valid-state) leaf))
+
+  hand-over-settled : hand-over-lts.Need-returns-2 hand-over-calls (hand-over-at t) hand-over.Post
+  hand-over-settled c =
+      let s = c .before .before .before .before .before in
+      let i = s .before .before .before .before .before in
+      let ready = i .before .before .before .before .before .before .before .before .before .before .pre .1 in
+      let leaf = sym (i .before .is-leaf .ensures) ∙ i .if2 .taken in
+      let alive = alive-by _ (i .before .before .if1 .left) in
+      settled-walked _ _ _ _ _ _ _ ready leaf alive (record {
+        level = refl;
+        low = refl;
+        high = refl;
+        terminals = c .before .before .before .before .terminals .given;
+        node-index = refl;
+        value-index = c .before .before .before .value-index .given;
+        memo = c .before .memo .given;
+      }) refl refl refl refl (s .settle .ensures)
+
+  hand-over-asked-requires : hand-over-lts.Need-asked-requires hand-over-calls (hand-over-at t) hand-over.Post
+  hand-over-asked-requires c κs = ready-usable _ _ _ (c .before .before .before .before .before .before .before .before .before .before .pre .1)
+
+  -- a state with a question left
+  hand-over-asking : (c : hand-over-lts.After-asked hand-over-calls (hand-over-at t) hand-over.Post) → let e = c .before .before .before .before .before .before .before .before .before .before .before .args in
+      Asking (e .plan .now) (map now (e .src .now)) (map now (e .values .now))
+      (work (e .level .now) (e .low .now) (e .high .now) (e .terminals .now) (e .node-index .now) (e .value-index .now) (e .memo .now) (e .tally .now))
+      (e .at) (c .asked .result) (numbered (e .x) (e .y) (e .mode))
+  hand-over-asking c =
+      let i = c .before in
+      let ready = i .before .before .before .before .before .before .before .before .before .before .pre .1 in
+      let asks = c .asked .ensures _ (ready .source .nodes) (ready .valid-state .x-refers) (ready .valid-state .y-refers) in
+      asking-by _ _ _ (c .asked .result) ready asks (sym (i .if2 .left) ∙ i .before .is-leaf .ensures) (i .before .before .if1 .left)
+
+  hand-over-row-requires : hand-over-lts.Need-row-requires hand-over-calls (hand-over-at t) hand-over.Post
+  hand-over-row-requires c κs =
+      let s = c .before .before .before .before .before .before .before .before .before in
+      let asking = hand-over-asking s in
+      let fall = asking-falls _ _ _ asking in
+      (omega (arith, s .before .before .before .before .before .before .before .before .before .before .before .pre .0, fall), asking)
+
+  hand-over-column-requires : hand-over-lts.Need-column-requires hand-over-calls (hand-over-at t) hand-over.Post
+  hand-over-column-requires c κs =
+      let s = c .before .before .before .before .before .before .before .before .before in
+      let asking = hand-over-asking s in
+      let fall = asking-falls _ _ _ asking in
+      (omega (arith, s .before .before .before .before .before .before .before .before .before .before .before .pre .0, fall), asking)
+
+-- ---- the cycle
+
+pub +column+hand-over+row-spec : {M : Type 1} → statement M
++column+hand-over+row-spec =
+    close μ-column μ-hand-over μ-row
+    (λ t. column-lts.spec (column-calls t) (column-at t) column.Post
+    (column-next-requires t)
+    (column-slot-requires t)
+    (column-recall-requires t)
+    (column-hand-over-requires t)
+    (column-next-requires-2 t)
+    (column-slot-requires-2 t)
+    (column-recall-requires-2 t)
+    (column-hand-over-requires-2 t)
+    (column-finish-requires t)
+    (λ c. column-returns t c .room .level)
+    (λ c. column-returns t c .room .low)
+    (λ c. column-returns t c .room .high)
+    (λ c. column-returns t c .room .terminals)
+    (λ c. column-returns t c .room .node-index)
+    (λ c. column-returns t c .room .value-index)
+    (λ c. column-returns t c .room .memo)
+    (column-returns t))
+    (λ t. hand-over-lts.spec (hand-over-calls t) (hand-over-at t) hand-over.Post
+    (hand-over-tally t)
+    (hand-over-gone t)
+    (λ c κs. tt)
+    (hand-over-settle-requires t)
+    (λ c. hand-over-settled t c .room .terminals)
+    (λ c. hand-over-settled t c .room .value-index)
+    (λ c. hand-over-settled t c .room .memo)
+    (hand-over-settled t)
+    (hand-over-asked-requires t)
+    (hand-over-row-requires t)
+    (hand-over-column-requires t)
+    (λ c. c .before .before .before .before .before .before .before .before .before .before .before .before .before .row .ensures .room .level)
+    (λ c. c .before .before .before .before .before .before .before .before .before .before .before .before .before .row .ensures .room .low)
+    (λ c. c .before .before .before .before .before .before .before .before .before .before .before .before .before .row .ensures .room .high)
+    (λ c. c .before .before .before .before .before .before .before .before .before .before .before .before .before .row .ensures .room .terminals)
+    (λ c. c .before .before .before .before .before .before .before .before .before .before .before .before .before .row .ensures .room .node-index)
+    (λ c. c .before .before .before .before .before .before .before .before .before .before .before .before .before .row .ensures .room .value-index)
+    (λ c. c .before .before .before .before .before .before .before .before .before .before .before .before .before .row .ensures .room .memo)
+    (λ c. c .before .before .before .before .before .before .before .before .before .before .before .before .before .row .ensures)
+    (λ c. c .before .before .before .before .before .before .before .before .before .before .before .before .before .column .ensures .room .level)
+    (λ c. c .before .before .before .before .before .before .before .before .before .before .before .before .before .column .ensures .room .low)
+    (λ c. c .before .before .before .before .before .before .before .before .before .before .before .before .before .column .ensures .room .high)
+    (λ c. c .before .before .before .before .before .before .before .before .before .before .before .before .before .column .ensures .room .terminals)
+    (λ c. c .before .before .before .before .before .before .before .before .before .before .before .before .before .column .ensures .room .node-index)
+    (λ c. c .before .before .before .before .before .before .before .before .before .before .before .before .before .column .ensures .room .value-index)
+    (λ c. c .before .before .before .before .before .before .before .before .before .before .before .before .before .column .ensures .room .memo)
+    (λ c. c .before .before .before .before .before .before .before .before .before .before .before .before .before .column .ensures))
+    (λ t. row-lts.spec (row-calls t) (row-at t) row.Post
+    (row-next-requires t)
+    (row-slot-requires t)
+    (row-recall-requires t)
+    (row-hand-over-requires t)
+    (row-next-requires-2 t)
+    (row-slot-requires-2 t)
+    (row-recall-requires-2 t)
+    (row-hand-over-requires-2 t)
+    (row-finish-requires t)
+    (λ c. row-returns t c .room .level)
+    (λ c. row-returns t c .room .low)
+    (λ c. row-returns t c .room .high)
+    (λ c. row-returns t c .room .terminals)
+    (λ c. row-returns t c .room .node-index)
+    (λ c. row-returns t c .room .value-index)
+    (λ c. row-returns t c .room .memo)
+    (row-returns t))
