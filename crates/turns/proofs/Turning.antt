@@ -31,7 +31,7 @@ use Rattle.turns.specs.Work.{source-in, Work, node-room, value-room, pro
 use Rattle.turns.specs.Turn.{JoinReady, Finished, PlaceReady, SettledBy, Settled, Ready, Asking, Walked}
 use Rattle.turns.proofs.Progress.{turn-walks}
 use Rattle.turns.proofs.Works.{Roomy, right-walks, walks-carry, finish-carries, walks-right, out-answered, built-answered}
-use Rattle.turns.proofs.Ends.{building-is, alive-by, held-roomy, Ended, ended}
+use Rattle.turns.proofs.Ends.{building-is, alive-by, gone-by, held-roomy, Ended, ended}
 use Rattle.turns.proofs.Settling.{settles}
 
 -- ---- a state's place in the computed table
@@ -77,12 +77,13 @@ module _ (plan : List ℕ) (cols : List (List ℕ)) (vals : List (List ℤ)) whe
   pub ready-usable : {w : Work} {at : ℕ} {σ : State} → Ready plan cols vals w at σ → Usable P cols σ
   ready-usable {σ = σ} ready = usable P source (ready .valid-plan) cols σ (ready .source .nodes) (ready .valid-state)
 
-  -- while the walk builds, its nodes and its values are held
-  pub nodes-ready : (w : Work) → Working P source w → JoinReady plan (w .level) (w .low) (w .high) (w .node-index) (w .tally)
-  nodes-ready w work builds = (rw (building-is w builds) at (work .filled)) .0
+  -- while the walk builds, its values and its nodes are held
+  pub values-ready : {w : Work} {at : ℕ} {σ : State} → Ready plan cols vals w at σ → PlaceReady plan (w .terminals) (w .value-index) (w .tally)
+  values-ready {w} ready builds = (rw (building-is w builds) at (ready .work .filled)) .1
 
-  pub values-ready : (w : Work) → Working P source w → PlaceReady plan (w .terminals) (w .value-index) (w .tally)
-  values-ready w work builds = (rw (building-is w builds) at (work .filled)) .1
+  pub nodes-ready : {w w′ : Work} {σ : State} {r : ℕ} → Walked plan cols vals w σ r w′
+      → JoinReady plan (w′ .level) (w′ .low) (w′ .high) (w′ .node-index) (w′ .tally)
+  nodes-ready {w′ = w′} walked builds = (rw (building-is w′ builds) at (walked .work .filled)) .0
 
   -- a state with a question left, before anything has left the width
   pub asking-by : {w : Work} {at : ℕ} (lv : ℕ) {σ : State} → Ready plan cols vals w at σ → lv ≡ top P source σ → false ≡ is-leaf σ → getD (w .tally) 2 0 ≤ 1
@@ -111,7 +112,7 @@ module _ (plan : List ℕ) (cols : List (List ℕ)) (vals : List (List ℤ)) whe
   next-falls {lv = lv} {σ = σ} b τ asking is =
       let below : top P source σ < P .levels = rw (← asking .asks) (asking .below) in
       let later : top P source σ < top P source τ
-            = rw (is, asking .asks) (next-later P source (asking .ready .valid-plan) b σ (asking .ready .valid-state) below) in
+      = rw (is, asking .asks) (next-later P source (asking .ready .valid-plan) b σ (asking .ready .valid-state) below) in
       omega (arith, asking .asks, asking .below)
 
   -- ---- what the calls of a turn ask for
@@ -172,8 +173,8 @@ module _ (plan : List ℕ) (cols : List (List ℕ)) (vals : List (List ℤ)) whe
   }
 
   -- out of the width there is no more to walk
-  pub gone-walked : {w : Work} {at : ℕ} (σ : State) → Ready plan cols vals w at σ → progress-of w ≡ out → Walked plan cols vals w σ OUT w
-  gone-walked {w} σ ready e = record { room = same-room w; work = ready .work; walks = rw e gone }
+  pub gone-walked : {w : Work} {at : ℕ} (σ : State) → Ready plan cols vals w at σ → 1 < getD (w .tally) 2 0 → Walked plan cols vals w σ OUT w
+  gone-walked {w} σ ready large = record { room = same-room w; work = ready .work; walks = rw (gone-by w large) gone }
 
   -- ---- a state settled
 
@@ -185,14 +186,14 @@ module _ (plan : List ℕ) (cols : List (List ℕ)) (vals : List (List ℤ)) whe
     settled-kept (Within e) by = inr (by .1)
     settled-kept Outside by = inl (by .1)
 
-    pub settled-walked : {at : ℕ} → Ready plan cols vals w at σ → is-leaf σ ≡ true → (progress-of w ≡ out → ⊥) → SameRoom w w′
+    pub settled-walked : {at : ℕ} → Ready plan cols vals w at σ → is-leaf σ ≡ true → getD (w .tally) 2 0 ≤ 1 → SameRoom w w′
         → w′ .level ≡ w .level → w′ .low ≡ w .low → w′ .high ≡ w .high → w′ .node-index ≡ w .node-index
         → Settled plan (w .terminals) (w .value-index) (w .tally) (w′ .terminals) (w′ .value-index) (w′ .tally) vals (w .memo) σ (w′ .memo) r
         → Walked plan cols vals w σ r w′
-    settled-walked ready leaf alive room level low high index settled =
+    settled-walked ready leaf small room level low high index settled =
         let ok = ready .valid-state in
         let by : By (bounded (P .width) (leaf-entry source σ)) = settled source (ready .source .values) (ok .x-refers) (ok .y-refers) leaf in
-        let after = settles plan source w w′ σ r (ready .valid-plan) (ready .fit) leaf (ready .work) alive room level low high index by in
+        let after = settles plan source w w′ σ r (ready .valid-plan) (ready .fit) leaf (ready .work) (alive-by w small) room level low high index by in
         record {
           room = room;
           work = kept-works w w′ σ r (ready .work) (ready-place ready) (λ τ a. walks-carry P source σ τ a (after .walks))

@@ -21,7 +21,6 @@ use Rattle.turns.proofs.finish.Reads as finish
 use Rattle.turns.proofs.settle.Reads as settle
 use Rattle.turns.specs.Work.{source-in, work, SameRoom}
 use Rattle.turns.specs.Turn.{Ready, Asking, Walked}
-use Rattle.turns.proofs.Ends.{alive-by, gone-by}
 use Rattle.turns.proofs.Turning.{ready-place, ready-slot, ready-usable, nodes-ready, values-ready, asking-by, levels-left, asking-falls, next-falls}
 use Rattle.turns.proofs.Turning.{next-ready, recalled-walked, gone-walked, settled-walked, turned}
 use Rattle.walks.proofs.Views.{either, next-is}
@@ -154,8 +153,8 @@ module _ (t : ℕ) where
   row-finish-requires c κs =
       let j = c .before .before .before .before .before .before in
       let a = j .before .before .before .before .before .before .before .before .before .before .before .before .before .before .before .before .pre .1 in
-      let done = row-high j .work in
-      (nodes-ready _ _ _ _ done, record { table = done .table; place = ready-place _ _ _ (a .ready); slot = a .ready .slot })
+      let high = row-high j in
+      (nodes-ready _ _ _ high, record { table = high .work .table; place = ready-place _ _ _ (a .ready); slot = a .ready .slot })
 
   -- the lists are as long after the last call as before it
   row-room : (c : row-lts.After-slice-known23 row-calls (row-at t) row.Post) → let j = c .before .before .before .before .before .before .before .before .before .before .before .before .before .before .before .before .before in let f = c .before .before .before .before .before .before .before .before .before .before .finish .last .1 .1 .1 .1 .1 .1 .1 .1 in
@@ -182,7 +181,6 @@ module _ (t : ℕ) where
       let a = n₁ .before .before .before .before .before .before .before .pre .1 in
       turned _ _ _ _ _ _ _ _ _ _ _ _ _ _ a (next-is _ _ _ false a (n₁ .next .result) (n₁ .next .ensures))
       (next-is _ _ _ true a (n₂ .next2 .result) (n₂ .next2 .ensures)) (row-low j₁) (row-high j₂) (row-room c) refl refl (f .finish .ensures)
-
 
 -- ---- column
 
@@ -271,8 +269,8 @@ module _ (t : ℕ) where
   column-finish-requires c κs =
       let j = c .before .before .before .before .before .before in
       let a = j .before .before .before .before .before .before .before .before .before .before .before .before .before .before .before .before .pre .1 in
-      let done = column-high j .work in
-      (nodes-ready _ _ _ _ done, record { table = done .table; place = ready-place _ _ _ (a .ready); slot = a .ready .slot })
+      let high = column-high j in
+      (nodes-ready _ _ _ high, record { table = high .work .table; place = ready-place _ _ _ (a .ready); slot = a .ready .slot })
 
   -- the lists are as long after the last call as before it
   column-room : (c : column-lts.After-slice-known23 column-calls (column-at t) column.Post) → let j = c .before .before .before .before .before .before .before .before .before .before .before .before .before .before .before .before .before in let f = c .before .before .before .before .before .before .before .before .before .before .finish .last .1 .1 .1 .1 .1 .1 .1 .1 in
@@ -300,7 +298,6 @@ module _ (t : ℕ) where
       turned _ _ _ _ _ _ _ _ _ _ _ _ _ _ a (next-is _ _ _ false a (n₁ .next .result) (n₁ .next .ensures))
       (next-is _ _ _ true a (n₂ .next2 .result) (n₂ .next2 .ensures)) (column-low j₁) (column-high j₂) (column-room c) refl refl (f .finish .ensures)
 
-
 -- ---- handing over
 
 module _ (t : ℕ) where
@@ -312,14 +309,14 @@ module _ (t : ℕ) where
   hand-over-tally c = search needs
 
   hand-over-gone : hand-over-lts.Need-returns hand-over-calls (hand-over-at t) hand-over.Post
-  hand-over-gone c = gone-walked _ _ _ _ (c .before .before .before .before .before .before .before .before .pre .1) (gone-by _ (c .if1 .taken))
+  hand-over-gone c = gone-walked _ _ _ _ (c .before .before .before .before .before .before .before .before .pre .1) (c .if1 .taken)
 
   hand-over-settle-requires : hand-over-lts.Need-settle-requires hand-over-calls (hand-over-at t) hand-over.Post
   hand-over-settle-requires c κs =
       let i = c .before .before .before .before in
       let ready = i .before .before .before .before .before .before .before .before .before .before .pre .1 in
       let leaf = sym (i .before .is-leaf .ensures) ∙ i .if2 .taken in
-      (values-ready _ _ _ _ (ready .work), (ready-slot _ _ _ ready, leaf-slots _ _ _ (ready .source .values) _ (ready .valid-state) leaf))
+      (values-ready _ _ _ ready, (ready-slot _ _ _ ready, leaf-slots _ _ _ (ready .source .values) _ (ready .valid-state) leaf))
 
   hand-over-settled : hand-over-lts.Need-returns-2 hand-over-calls (hand-over-at t) hand-over.Post
   hand-over-settled c =
@@ -327,8 +324,7 @@ module _ (t : ℕ) where
       let i = s .before .before .before .before .before in
       let ready = i .before .before .before .before .before .before .before .before .before .before .pre .1 in
       let leaf = sym (i .before .is-leaf .ensures) ∙ i .if2 .taken in
-      let alive = alive-by _ (i .before .before .if1 .left) in
-      settled-walked _ _ _ _ _ _ _ ready leaf alive (record {
+      settled-walked _ _ _ _ _ _ _ ready leaf (i .before .before .if1 .left) (record {
         level = refl;
         low = refl;
         high = refl;
