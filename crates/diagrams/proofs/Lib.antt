@@ -11,4 +11,7 @@ pub mod Chains
 pub mod Hashes
 pub mod NodeTables
 pub mod ValueTables
-pub mod Clearing
+pub mod Filling
+pub mod EmptyTables
+pub mod Zeros
+pub mod Stores
