@@ -15,3 +15,5 @@ pub mod Filling
 pub mod EmptyTables
 pub mod Zeros
 pub mod Stores
+pub mod Identities
+pub mod IdentityDiagram

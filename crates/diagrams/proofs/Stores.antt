@@ -7,7 +7,8 @@ use native.Mathlib.Nat.{add-zero}
 use lib.IntN.{ℤ, pos}
 use lib.ListN.{length, getD, take, drop}
 use Rattle.algebra.specs.declared.Entry.{Entry}
-use Rattle.diagrams.specs.Columns.{columns, over, zeroed, wiped, NodeColumns, ValueColumns, Published}
+use Rattle.diagrams.specs.Diagram.{Node, holding}
+use Rattle.diagrams.specs.Columns.{columns, over, written, zeroed, wiped, NodeColumns, NodesWritten, ValueColumns, Published}
 use Rattle.diagrams.specs.UniqueTable.{listed, entry-in, values-in, ValuesHeld}
 use Rattle.diagrams.proofs.Chains.{listed-agree}
 use Rattle.diagrams.proofs.Filling.{map-listed, zeroed-column}
@@ -35,6 +36,21 @@ module _ (vals : List ℤ) (used : ℕ) where
 pub publishes : {L heads : ℕ} {vs : List Entry} {vals : List ℤ} {index : List ℕ} (used : ℕ) {a b c d a′ b′ c′ d′ : List ℤ}
     → used ≡ length vs → ValuesHeld L heads vs vals index → Published (values-in used vals) a b c d a′ b′ c′ d′ → Published vs a b c d a′ b′ c′ d′
 publishes used u held p = rw (u, held .values) at p
+
+-- nodes and values written are a store written
+pub store-written : {ns : List Node} {vs : List Entry} {level low high level′ low′ high′ : List ℕ} {a b c d a′ b′ c′ d′ : List ℤ}
+    → NodesWritten ns level low high level′ low′ high′ → Published vs a b c d a′ b′ c′ d′
+    → columns level′ low′ high′ a′ b′ c′ d′ ≡ written (holding ns vs) (columns level low high a b c d)
+unfolding written
+store-written n v i = record {
+  level = n .of-level i;
+  low = n .of-low i;
+  high = n .of-high i;
+  a = v .of-a i;
+  b = v .of-b i;
+  c = v .of-c i;
+  d = v .of-d i;
+}
 
 -- ---- wiped
 

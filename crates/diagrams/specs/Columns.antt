@@ -49,6 +49,18 @@ held N L s = record {
   d = column (pos 0) L (map (λ (x : Entry). x .d) (s .values));
 }
 
+-- the columns with a store in their first slots, and the other slots as they were
+unfoldable pub written : Store Entry → Columns → Columns
+written s C = record {
+  level = over (map (λ (n : Node). n .level) (s .nodes)) (C .level);
+  low = over (map (λ (n : Node). code (n .low)) (s .nodes)) (C .low);
+  high = over (map (λ (n : Node). code (n .high)) (s .nodes)) (C .high);
+  a = over (map (λ (x : Entry). x .a) (s .values)) (C .a);
+  b = over (map (λ (x : Entry). x .b) (s .values)) (C .b);
+  c = over (map (λ (x : Entry). x .c) (s .values)) (C .c);
+  d = over (map (λ (x : Entry). x .d) (s .values)) (C .d);
+}
+
 -- "all 0"
 unfoldable pub cleared : ℕ → ℕ → Columns
 cleared N L = record {
@@ -78,6 +90,12 @@ pub record NodeColumns (level low high : List ℕ) (used : ℕ) : Type 0 where
   pub in-level : used ≤ length level
   pub in-low : used ≤ length low
   pub in-high : used ≤ length high
+
+-- what stands in the node columns with ′: these nodes, and past them what stood in the others
+pub record NodesWritten (ns : List Node) (level low high level′ low′ high′ : List ℕ) : Type 0 where
+  pub of-level : level′ ≡ over (map (λ (n : Node). n .level) ns) level
+  pub of-low : low′ ≡ over (map (λ (n : Node). code (n .low)) ns) low
+  pub of-high : high′ ≡ over (map (λ (n : Node). code (n .high)) ns) high
 
 -- ---- the value columns
 
