@@ -11,4 +11,9 @@ pub mod Chains
 pub mod Hashes
 pub mod NodeTables
 pub mod ValueTables
-pub mod Clearing
+pub mod Filling
+pub mod EmptyTables
+pub mod Zeros
+pub mod Stores
+pub mod Identities
+pub mod IdentityDiagram

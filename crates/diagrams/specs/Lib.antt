@@ -1,3 +1,4 @@
 pub mod Diagram
 pub mod Columns
 pub mod UniqueTable
+pub mod Identity

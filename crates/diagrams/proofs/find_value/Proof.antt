@@ -1,10 +1,13 @@
 -- `diagrams::find_value` meets its contract. The loop's invariant: p is a number of the terminal's chain, and the terminal is not
 -- among those from p on. The measure is p. Assumes nothing.
+use mathlib.Core.Path.{_≡_, _∙_, ap}
 use Prim.Native.Nat.{_-_, _<_}
 use native.Mathlib.Omega.{arith}
 use lib.ListN.{getD}
+use Rattle.algebra.specs.declared.Entry.{Entry}
 use Rattle.algebra.specs.Entry.{𝟘}
-use Rattle.diagrams.specs.UniqueTable.{values-in, value-hash}
+use Rattle.diagrams.specs.Diagram.{same-entry}
+use Rattle.diagrams.specs.UniqueTable.{entry-in, values-in, value-hash}
 use Rattle.diagrams.proofs.Tests.{entry-decides}
 use Rattle.diagrams.proofs.Chains.{Searching, search-starts, turn-within, turn-again, turn-found, turns-end}
 use Rattle.diagrams.proofs.Hashes.{value-hash-below}
@@ -39,28 +42,36 @@ sub-j c = omega arith
 cast-j : tie.Need-cast-j Inv-loop μ-loop
 cast-j c = record { fits = omega (arith, within c .small) }
 
-value-is-requires : tie.Need-value-is-requires Inv-loop μ-loop
-value-is-requires c κs = within c .in-vals
+read-value-requires : tie.Need-read-value-requires Inv-loop μ-loop
+read-value-requires c κs = within c .in-vals
+
+same-entry-requires : tie.Need-same-entry-requires Inv-loop μ-loop
+same-entry-requires c κs = tt
+
+-- what the test says of the terminal
+tested : (c : tie.After-same-entry Inv-loop μ-loop) → let head = c .before .before .before in let at = start head .args in
+    c .same-entry .result ≡ same-entry (entry-in (at .vals .now) (head .loop .p - 1)) (at .e)
+tested c = c .same-entry .ensures ∙ ap (λ (x : Entry). same-entry x (start (c .before .before .before) .args .e)) (c .before .read-value .ensures)
 
 returns : tie.Need-returns Inv-loop μ-loop
 returns c =
-    let head = c .before .before .before in
-    turn-found _ _ (start head .pre .0 .indexed) _ entry-decides (head .loop .p) (head .loop .inv) (c .before .before .loop-test .taken)
-    (c .before .value-is .ensures) (c .if1 .taken)
+    let head = c .before .before .before .before in
+    turn-found _ _ (start head .pre .0 .indexed) _ entry-decides (head .loop .p) (head .loop .inv) (c .before .before .before .loop-test .taken)
+    (tested (c .before)) (c .if1 .taken)
 
 mul-p : tie.Need-mul-p Inv-loop μ-loop
-mul-p c = record { fits = omega (arith, within (c .before .before) .small) }
+mul-p c = record { fits = omega (arith, within (c .before .before .before) .small) }
 
 shared-slice-read-p : tie.Need-shared-slice-read-p Inv-loop μ-loop
-shared-slice-read-p c = within (c .before .before .before) .in-index
+shared-slice-read-p c = within (c .before .before .before .before) .in-index
 
-again : (c : tie.Else1 Inv-loop μ-loop) → let head = c .before .before .before in let at = start head .args in
+again : (c : tie.Else1 Inv-loop μ-loop) → let head = c .before .before .before .before in let at = start head .args in
     let q = getD (at .index .now) (head .loop .p - 1) 0 in
     Searching (value-hash (at .heads)) 𝟘 (values-in (at .used) (at .vals .now)) (at .e) q × (q < head .loop .p)
 again c =
-    let head = c .before .before .before in
-    turn-again _ _ (start head .pre .0 .indexed) _ entry-decides (head .loop .p) (head .loop .inv) (c .before .before .loop-test .taken)
-    (c .before .value-is .ensures) (c .if1 .left)
+    let head = c .before .before .before .before in
+    turn-again _ _ (start head .pre .0 .indexed) _ entry-decides (head .loop .p) (head .loop .inv) (c .before .before .before .loop-test .taken)
+    (tested (c .before)) (c .if1 .left)
 
 loop-less : tie.Need-loop-less Inv-loop μ-loop
 loop-less c = again (c .before) .1
@@ -82,7 +93,8 @@ find-value-spec =
     loop-holds
     sub-j
     cast-j
-    value-is-requires
+    read-value-requires
+    same-entry-requires
     returns
     mul-p
     shared-slice-read-p
