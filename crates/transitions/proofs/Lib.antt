@@ -8,4 +8,5 @@ pub mod Cofactors
 pub mod Sound
 pub mod Meanings
 pub mod Needs
+pub mod Plans
 pub mod Walks
