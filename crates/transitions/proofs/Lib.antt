@@ -9,4 +9,6 @@ pub mod Sound
 pub mod Meanings
 pub mod Needs
 pub mod Plans
+pub mod Sides
 pub mod Walks
+pub mod Starts

@@ -48,7 +48,7 @@ module _ (plan : Plan) (s : Store Entry) (valid : ValidPlan plan s) (level : ℕ
   abbrev at : ℕ → Entry
   at x = reached 𝟘 s level (ref-of x) l
 
-  meaning-on : (m : Mode) (x y : ℕ) → Codes m → meaning plan s level (on-both m x y) l ≡ meant-by plan s level m (ref-of x) (ref-of y) l
+  pub meaning-on : (m : Mode) (x y : ℕ) → Codes m → meaning plan s level (on-both m x y) l ≡ meant-by plan s level m (ref-of x) (ref-of y) l
   unfolding meaning
   meaning-on m x y codes = ap (λ (mode : Mode). meant-by plan s level mode (ref-of x) (ref-of y) l) (mode-of-code m codes)
 

@@ -41,7 +41,7 @@ among-one (suc k) stage level j h e = by-order (decLt j k) (λ less. among-one k
 -- ---- controls
 
 module _ (plan : Plan) (s : Store Entry) (valid : ValidPlan plan s) where
-  control-none : (level : ℕ) → ((j : ℕ) → j < plan .stages → plan .stage j ≡ level → ⊥) → control plan level ≡ false
+  pub control-none : (level : ℕ) → ((j : ℕ) → j < plan .stages → plan .stage j ≡ level → ⊥) → control plan level ≡ false
   control-none level none = ap (λ (b : Bool). b && not (eqb level (plan .stage (plan .target)))) (among-none (plan .stages) (plan .stage) level none)
 
   -- not at the target
