@@ -25,6 +25,12 @@ cond-true b x y e = ap (λ (t : Bool). cond t x y) (sym e)
 pub cond-false : {A : Type 0} (b : Bool) (x y : A) → b ≡ false → y ≡ cond b x y
 cond-false b x y e = ap (λ (t : Bool). cond t x y) (sym e)
 
+pub bit-clear : (bit : ℕ) → bit ≡ 0 → eqb bit 1 ≡ false
+bit-clear bit clear = ap (λ (b : ℕ). eqb b 1) clear
+
+pub bit-set : (bit : ℕ) → bit < 2 → (bit ≡ 0 → ⊥) → eqb bit 1 ≡ true
+bit-set bit a-bit set = eq-eqb bit 1 (omega arith)
+
 -- ---- the target's question
 
 module _ (plan : Plan) (s : Store Entry) (level k x : ℕ) where

@@ -193,17 +193,17 @@ fn next_waiting(src: &[&[u32]; 3], plan: &[u32; 32], lv: u32, bit: u32, k: u32, 
             return at_target(src, plan, lv, bit, k + 1, x);
         }
         let own = cofactor(src, lv, bit, x);
-        if bit == 1 {
+        if bit == 0 {
             return State {
                 x: own,
                 y: own,
-                mode: 17 + k,
+                mode: 0,
             };
         }
         return State {
             x: own,
             y: own,
-            mode: 0,
+            mode: 17 + k,
         };
     }
     let own = cofactor(src, lv, bit, x);

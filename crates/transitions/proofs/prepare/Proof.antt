@@ -26,21 +26,28 @@ write-stage-requires : tie.Need-write-stage-requires
 write-stage-requires c κs = search needs
 
 returns : tie.Need-returns
-returns c = prepared-one _ _ _ _ _ _ (c .before .before .before .before .before .before .phases-of .ensures) (c .before .before .before .before .write-action .ensures) (c .before .before .if1 .taken) (c .write-stage .ensures)
+returns c = let at-action = c .before .before .before .before in
+    let at-phases = at-action .before .before in
+    prepared-one _ _ _ _ _ _ (at-phases .phases-of .ensures) (at-action .write-action .ensures)
+    (c .before .before .if1 .taken) (c .write-stage .ensures)
 
 write-stages-requires : tie.Need-write-stages-requires
 write-stages-requires c κs = search needs
 
 returns-2 : tie.Need-returns-2
-returns-2 c = prepared-ascending _ _ _ _ _ _ (c .before .before .before .before .before .before .before .phases-of .ensures) (c .before .before .before .before .before .write-action .ensures) (c .before .before .before .if1 .left) (c .before .before .if2 .taken)
-    (c .write-stages .ensures)
+returns-2 c = let at-action = c .before .before .before .before .before in
+    let at-phases = at-action .before .before in
+    prepared-ascending _ _ _ _ _ _ (at-phases .phases-of .ensures) (at-action .write-action .ensures)
+    (c .before .before .before .if1 .left) (c .before .before .if2 .taken) (c .write-stages .ensures)
 
 write-stages-requires-2 : tie.Need-write-stages-requires-2
 write-stages-requires-2 c κs = search needs
 
 returns-3 : tie.Need-returns-3
-returns-3 c = prepared-descending _ _ _ _ _ _ (c .before .before .before .before .before .before .before .phases-of .ensures) (c .before .before .before .before .before .write-action .ensures) (c .before .before .before .if1 .left) (c .before .before .if2 .left)
-    (c .write-stages2 .ensures)
+returns-3 c = let at-action = c .before .before .before .before .before in
+    let at-phases = at-action .before .before in
+    prepared-descending _ _ _ _ _ _ (at-phases .phases-of .ensures) (at-action .write-action .ensures)
+    (c .before .before .before .if1 .left) (c .before .before .if2 .left) (c .write-stages2 .ensures)
 
 pub prepare-spec : {M : Type 1} → statement M
 prepare-spec =

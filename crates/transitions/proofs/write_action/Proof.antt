@@ -25,7 +25,9 @@ element-write-plan-4 : tie.Need-element-write-plan-4
 element-write-plan-4 c = search needs
 
 returns : tie.Need-returns
-returns c = ap₂ (λ (flips mixes : ℕ). set (set (set (set (c .before .before .args .plan .now) 19 flips) 20 mixes) 21 (c .before .before .args .phases .zero)) 22 (c .before .before .args .phases .one))
+returns c = let l = c .before .before .args .plan .now in
+    let p = c .before .before .args .phases in
+    ap₂ (λ (flips mixes : ℕ). set (set (set (set l 19 flips) 20 mixes) 21 (p .zero)) 22 (p .one))
     (c .before .number-of .ensures) (c .number-of2 .ensures)
 
 pub write-action-spec : {M : Type 1} → statement M
