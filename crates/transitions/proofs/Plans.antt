@@ -1,6 +1,6 @@
 -- Plans: what the writes of a plan come to, and that the plan of a gate's data is one for the gate.
 -- Assumes nothing.
-use mathlib.Core.Path.{_≡_, refl, sym, _∙_, ap, ap₂, subst}
+use mathlib.Core.Path.{_≡_, refl, sym, _∙_, ap, subst}
 use mathlib.Core.Bool.{Bool, true, false, cond, _&&_}
 use mathlib.Core.List.{List, [], _∷_, _++_}
 use Prim.Native.Nat.{ℕ, _+_, _-_, _*_, _<_, _≤_}
@@ -16,8 +16,8 @@ use Rattle.gates.specs.Gate.{Kind, X, Y, Z, H, S, S†, T, T†, Pair, CNOT, CZ
 use Rattle.gates.specs.Rule.{kind-rule, pair-rule, gate-rule, target}
 use Rattle.diagrams.specs.Diagram.{levels}
 use Rattle.diagrams.proofs.Tests.{both-true}
-use Rattle.transitions.specs.Plan.{Plan, plan-of}
-use Rattle.transitions.specs.Prepare.{as-number, side-level, side-phases, with-action, with-stage, with-stages, staged, prepared, Stages, PlanFor}
+use Rattle.transitions.specs.Plan.{plan-of}
+use Rattle.transitions.specs.Prepare.{as-number, side-level, side-phases, with-action, with-stage, with-stages, prepared, Stages, PlanFor}
 
 -- ---- the writes
 

@@ -3,15 +3,15 @@
 use mathlib.Core.Path.{_≡_, refl, sym, _∙_, ap, ap₂}
 use mathlib.Core.Bool.{Bool, true, false, not, cond, _&&_, _||_}
 use mathlib.Core.List.{[], _∷_}
-use Prim.Native.Nat.{ℕ, zero, suc, _+_, _*_}
+use Prim.Native.Nat.{ℕ, zero, suc}
 use native.Mathlib.Omega.{arith}
 use lib.ListN.{length, set}
 use Rattle.algebra.specs.declared.Entry.{Entry}
 use Rattle.algebra.specs.Entry.{_⊕_, _⊖_, turned}
-use Rattle.algebra.specs.Matrix.{Bits, Matrix, product}
+use Rattle.algebra.specs.Matrix.{Bits, Matrix}
 use Rattle.gates.specs.declared.Phases.{Phases}
 use Rattle.gates.specs.declared.Rule.{Rule}
-use Rattle.gates.specs.Gate.{Gate, bit, matrix, Fits}
+use Rattle.gates.specs.Gate.{Gate, bit, Fits}
 use Rattle.gates.specs.Rule.{phase, gate-rule, controls, target, all-set, mixed, moved, acted}
 use Rattle.gates.proofs.LocalRules.{product-left, product-right}
 use Rattle.diagrams.specs.Diagram.{levels, rows, columns, entries}

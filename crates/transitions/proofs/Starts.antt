@@ -2,7 +2,6 @@
 -- Assumes nothing.
 use mathlib.Core.Path.{_≡_, refl, sym, _∙_, ap, ap₂, subst, fun-ext, _≡⟨_⟩_, _∎}
 use mathlib.Core.Bool.{Bool, true, false, not, cond, true≢false}
-use mathlib.Core.List.{[], _∷_}
 use Prim.Native.Nat.{ℕ, zero, suc, _+_, _-_, _*_, _<_, _≤_, zero-le}
 use native.Mathlib.Nat.{zero-add, sub-zero}
 use native.Mathlib.Decide.{decLt}
@@ -16,21 +15,20 @@ use Rattle.algebra.specs.Matrix.{Bits, Matrix, everywhere}
 use Rattle.algebra.specs.Width.{entryInWidth}
 use Rattle.gates.specs.declared.Phases.{Phases}
 use Rattle.gates.specs.declared.Rule.{Rule}
-use Rattle.gates.specs.Gate.{Kind, X, Y, Z, H, S, S†, T, T†, Pair, CNOT, CZ, Gate, on, pair, is, bit, Fits}
-use Rattle.gates.specs.Rule.{phases, phase, kind-rule, pair-rule, gate-rule, controls, target, all-set, mixed, moved, acted}
+use Rattle.gates.specs.Gate.{X, Y, Z, H, S, S†, T, T†, Pair, CNOT, CZ, Gate, on, pair, is, bit, Fits}
+use Rattle.gates.specs.Rule.{phases, phase, pair-rule, gate-rule, controls, target, all-set, mixed, moved, acted}
 use Rattle.gates.proofs.Naming.{is-refl, is-sound}
 use Rattle.diagrams.specs.Diagram.{Ref, node, code, Store, node-at, Both, Walk, old-value, new-value, old-node, new-node, reached, levels, entries, same-entry, empty, reduce, diagram}
 use Rattle.diagrams.proofs.Again.{reduce-ext}
-use Rattle.diagrams.proofs.Unique.{Seen, seen-more, both-map, Closed}
+use Rattle.diagrams.proofs.Unique.{Seen, seen-more, both-map}
 use Rattle.diagrams.proofs.Places.{levels-double}
 use Rattle.diagrams.proofs.Diagrams.{diagram-reduced}
-use Rattle.transitions.specs.declared.State.{State}
 use Rattle.transitions.specs.Plan.{Plan, plan-rule, control}
 use Rattle.transitions.specs.State.{ref-of, waiting, meaning, made, inside}
 use Rattle.transitions.specs.Next.{start}
 use Rattle.transitions.specs.Valid.{ValidPlan, ValidState}
-use Rattle.transitions.specs.Prepare.{as-number, side-level, side-phases, product-on, Stages, PlanFor}
-use Rattle.transitions.proofs.Codes.{ref-of-code, mode-of-code}
+use Rattle.transitions.specs.Prepare.{as-number, side-level, product-on, PlanFor}
+use Rattle.transitions.proofs.Codes.{ref-of-code}
 use Rattle.transitions.proofs.Stages.{control-none, control-target, control-stage}
 use Rattle.transitions.proofs.Cofactors.{Asks}
 use Rattle.transitions.proofs.Sound.{SoundAt, sound-on, sound-valid}

@@ -13,7 +13,7 @@ use Rattle.gates.specs.Rule.{phase, flipped}
 use Rattle.diagrams.specs.Diagram.{Store}
 use Rattle.transitions.specs.Plan.{Plan, plan-rule}
 use Rattle.transitions.specs.State.{ref-of, level-of, Mode, turning, waiting, choosing, mode-of, top-by, top}
-use Rattle.transitions.specs.Next.{mode-code, numbered, on-both, on-one, cofactor, paired, chosen, at-target, next-by, next-state}
+use Rattle.transitions.specs.Next.{mode-code, numbered, on-both, cofactor, paired, chosen, at-target, next-by, next-state}
 use Rattle.transitions.proofs.Codes.{mode-pair}
 use Rattle.transitions.proofs.Slots.{bit-cases}
 

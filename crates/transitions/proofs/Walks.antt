@@ -1,17 +1,17 @@
 -- The walk over the states: each bit leads to a valid state that asks later, a state that asks no more is a terminal, any other
 -- is a node over its two next states; what it makes only grows a store, and is found there again.
 -- Assumes nothing.
-use mathlib.Core.Path.{_≡_, refl, sym, _∙_, ap, ap₂, subst, _≡⟨_⟩_, _∎}
-use mathlib.Core.Bool.{Bool, true, false, cond, _&&_, true≢false}
+use mathlib.Core.Path.{_≡_, refl, sym, _∙_, ap, ap₂}
+use mathlib.Core.Bool.{Bool, true, false, _&&_, true≢false}
 use mathlib.Core.List.{[], _∷_}
-use Prim.Native.Nat.{ℕ, zero, suc, _+_, _-_, _<_, _≤_, min}
+use Prim.Native.Nat.{ℕ, zero, suc, _+_, _-_, _<_, _≤_}
 use native.Mathlib.Omega.{arith}
 use lib.ListN.{length}
 use Rattle.algebra.specs.declared.Entry.{Entry}
-use Rattle.algebra.specs.Entry.{𝟘, _⊕_, _⊖_, turned}
+use Rattle.algebra.specs.Entry.{_⊕_, _⊖_, turned}
 use Rattle.algebra.specs.Matrix.{Bits, everywhere}
 use Rattle.algebra.specs.Width.{entryInWidth}
-use Rattle.diagrams.specs.Diagram.{Ref, value, node, branch, Store, Diagram, rooted, same-entry, put-value, make-node, reduce}
+use Rattle.diagrams.specs.Diagram.{Ref, value, node, branch, Store, rooted, same-entry, put-value, make-node, reduce}
 use Rattle.diagrams.proofs.Tests.{entry-decides}
 use Rattle.diagrams.proofs.Again.{Extends, reduce-step, reduce-ext, reduce-extends, reduce-again, reduce-skip}
 use Rattle.transitions.specs.declared.State.{State}
