@@ -98,10 +98,13 @@ module _ (plan : Plan) (s : Store Entry) (valid : ValidPlan plan s) where
   below-asks level b (value j) h refers from = (refers, h)
   below-asks level b (node i) h refers from = by-level (eqb (node-at s i .level) level) refl
     where
+      child : (r : Ref) → node-at s i .level ≡ level → Refers s r → From s (suc (node-at s i .level)) r → Refers s r × (level < level-of plan s r)
+      child r e inside from = (inside, from-level level r h (subst (λ (m : ℕ). From s (suc m) r) e from))
+
       children : node-at s i .level ≡ level → (c : Bool) → Refers s (cond c (node-at s i .high) (node-at s i .low))
           × (level < level-of plan s (cond c (node-at s i .high) (node-at s i .low)))
-      children e true = (valid .closed i refers .1, from-level level (node-at s i .high) h (subst (λ (m : ℕ). From s (suc m) (node-at s i .high)) e (valid .levels-rise i refers .1)))
-      children e false = (valid .closed i refers .0, from-level level (node-at s i .low) h (subst (λ (m : ℕ). From s (suc m) (node-at s i .low)) e (valid .levels-rise i refers .0)))
+      children e true = child (node-at s i .high) e (valid .closed i refers .1) (valid .levels-rise i refers .1)
+      children e false = child (node-at s i .low) e (valid .closed i refers .0) (valid .levels-rise i refers .0)
 
       by-level : (t : Bool) → eqb (node-at s i .level) level ≡ t
           → Refers s (cond t (cond b (node-at s i .high) (node-at s i .low)) (node i))

@@ -111,7 +111,8 @@ module _ (plan : Plan) (s : Store Entry) (valid : ValidPlan plan s) (level : ℕ
         by-tests true is-last alike f =
             let k-last : k ≡ plan .stages = eqb-true _ _ is-last in
             alone-means e y small
-            ∙ ap (λ (t : Bool). choice t e (at y) (at x)) (sym (all-passed plan s valid level l (subst (λ (j : ℕ). Passed plan j level) k-last (passed k-last))))
+            ∙ ap (λ (t : Bool). choice t e (at y) (at x))
+            (sym (all-passed plan s valid level l (subst (λ (j : ℕ). Passed plan j level) k-last (passed k-last))))
         by-tests false more true f =
             let tests = both-true (eqb e 0) (eqb x y) f in
             plain-means x ∙ one active (eqb-true _ _ (tests .0)) (eqb-true _ _ (tests .1))
@@ -224,7 +225,8 @@ module _ (plan : Plan) (s : Store Entry) (valid : ValidPlan plan s) (level : ℕ
 
         alone : plan .mixes ≡ true → active ≡ true
         alone mixes =
-            all-passed plan s valid (suc level) l (subst (λ (n : ℕ). Passed plan n (suc level)) (last (valid .mixes-alone mixes) (valid .has-target)) passed-target)
+            let one = last (valid .mixes-alone mixes) (valid .has-target) in
+            all-passed plan s valid (suc level) l (subst (λ (n : ℕ). Passed plan n (suc level)) one passed-target)
           where
             last : plan .stages ≡ 1 → plan .target < plan .stages → suc (plan .target) ≡ plan .stages
             last one below = omega arith
@@ -233,7 +235,8 @@ module _ (plan : Plan) (s : Store Entry) (valid : ValidPlan plan s) (level : ℕ
         mix u w = cond b (u ⊖ w) (u ⊕ w)
 
         by-mixes : (mixes : Bool) → plan .mixes ≡ mixes
-            → cond active (cond mixes (mix (gives s level x (false ∷ l)) (gives s level x (true ∷ l))) (turned (phase (plan .phases) b) (gives s level x (taken ∷ l))))
+            → cond active
+            (cond mixes (mix (gives s level x (false ∷ l)) (gives s level x (true ∷ l))) (turned (phase (plan .phases) b) (gives s level x (taken ∷ l))))
             (gives s level x (b ∷ l))
             ≡ meaning plan s (suc level) (cond mixes
             (paired plan (cond b 9 8) (cofactor s level false x) (cofactor s level true x))

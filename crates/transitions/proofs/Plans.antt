@@ -26,7 +26,8 @@ module _ (rule : Rule) (side control target : ℕ) (l acted-on : List ℕ) {p : 
   action : acted-on ≡ with-action (rule .flips) (rule .mixes) (side-phases side rule) l
   action = acted-is ∙ ap (λ (q : Phases). with-action (rule .flips) (rule .mixes) q l) p-is
 
-  pub prepared-one : {written : List ℕ} → rule .qubits ≡ 1 → written ≡ with-stage (side-level side target) acted-on → written ≡ prepared rule side control target l
+  pub prepared-one : {written : List ℕ} → rule .qubits ≡ 1 → written ≡ with-stage (side-level side target) acted-on
+      → written ≡ prepared rule side control target l
   unfolding prepared
   prepared-one one written-is = rw (eq-eqb _ _ one) (written-is ∙ ap (with-stage (side-level side target)) action)
 
@@ -104,7 +105,8 @@ two-qubits CZ e = omega arith
 module _ (n : ℕ) (right : Bool) (l : List ℕ) (size : length l ≡ 32) (levels-in : getD l 28 0 ≡ levels n) where
   abbrev action-writes : Rule → List (ℕ × ℕ)
   action-writes rule =
-      (22, side-phases (as-number right) rule .one) ∷ (21, side-phases (as-number right) rule .zero) ∷ (20, as-number (rule .mixes)) ∷ (19, as-number (rule .flips)) ∷ []
+      let p = side-phases (as-number right) rule in
+      (22, p .one) ∷ (21, p .zero) ∷ (20, as-number (rule .mixes)) ∷ (19, as-number (rule .flips)) ∷ []
 
   -- the slot after writes that are within 32 slots
   reads : (ws : List (ℕ × ℕ)) (j : ℕ) → all-below 32 ws ≡ true → getD (written ws l) j 0 ≡ read ws j (getD l j 0)
@@ -177,7 +179,7 @@ module _ (n : ℕ) (right : Bool) (l : List ℕ) (size : length l ≡ 32) (level
         level = side-level (as-number right)
 
         after : (side : ℕ) → (2 * p + side < 2 * q + side → ⊥) → 2 * q + side < 2 * p + side
-        after side not-less = let apart = fits .2 in by-less (decLt q p)
+        after side not-less = by-less (decLt q p)
           where
             by-less : Dec (q < p) → 2 * q + side < 2 * p + side
             by-less (yes less) = omega arith
@@ -185,10 +187,13 @@ module _ (n : ℕ) (right : Bool) (l : List ℕ) (size : length l ≡ 32) (level
 
         by-order : Dec (level p < level q) → PlanFor n right (pair k p q) (plan-of (cond (ltb (level p) (level q))
             (pair-slots (level p) (level q) 1) (pair-slots (level q) (level p) 0)))
-        by-order (yes less) = rw (lt-ltb _ _ less) (plan-stages (level p) (level q) 1 (omega arith) less (slot-of (level p) (level q) 1 1) (slot-of (level p) (level q) 1 0))
+        by-order (yes less) =
+            let slot = slot-of (level p) (level q) 1 in
+            rw (lt-ltb _ _ less) (plan-stages (level p) (level q) 1 (omega arith) less (slot 1) (slot 0))
         by-order (no other) =
             let more : level q < level p = after (as-number right) other in
-            rw (le-ltb (level p) (level q) (omega arith)) (plan-stages (level q) (level p) 0 (omega arith) more (slot-of (level q) (level p) 0 0) (slot-of (level q) (level p) 0 1))
+            let slot = slot-of (level q) (level p) 0 in
+            rw (le-ltb (level p) (level q) (omega arith)) (plan-stages (level q) (level p) 0 (omega arith) more (slot 0) (slot 1))
 
   -- the plan that `prepare` writes is one for the gate
   pub prepared-plan : (g : Gate) (c : ℕ) → Fits n g → Controls g c → PlanFor n right g (plan-of (prepared (gate-rule g) (as-number right) c (target g) l))

@@ -99,28 +99,36 @@ line-set : (M : Matrix) (right : Bool) (l : Bits) (q : ℕ) (b : Bool) → line 
 line-set M false l q b = ap₂ M (sym (set-half false l q b .0)) (sym (set-half false l q b .1))
 line-set M true l q b = ap₂ M (sym (set-half true l q b .1)) (sym (set-half true l q b .0))
 
-module _ (rule : Rule) (p : Phases) (M : Matrix) (right : Bool) (Q P : ℕ → Bool) (n q : ℕ) (l : Bits) (spreads : Spreads right Q P) (size : length l ≡ levels n) where
-  taken-place : (flips : Bool) → line M right l (cond flips (set (half right l) q (not (bit (half right l) q))) (half right l))
+module _ (rule : Rule) (p : Phases) (M : Matrix) (right : Bool) (Q P : ℕ → Bool) (n q : ℕ) (l : Bits) (spreads : Spreads right Q P)
+    (size : length l ≡ levels n) where
+  abbrev L : Bits → Entry
+  L = line M right l
+
+  abbrev h : Bits
+  h = half right l
+
+  taken-place : (flips : Bool) → L (cond flips (set h q (not (bit h q))) h)
       ≡ entries M (cond flips (set l (level-on right q) (not (bit l (level-on right q)))) l)
   taken-place true =
-      line-set M right l q (not (bit (half right l) q)) ∙ ap (λ (b : Bool). entries M (set l (level-on right q) (not b))) (bit-half right l q)
+      line-set M right l q (not (bit h q)) ∙ ap (λ (b : Bool). entries M (set l (level-on right q) (not b))) (bit-half right l q)
   taken-place false = line-half M right l
 
-  mixed-place : mixed q (line M right l) (half right l) ≡ mixed (level-on right q) (entries M) l
+  mixed-place : mixed q L h ≡ mixed (level-on right q) (entries M) l
   mixed-place =
-      ap (λ (b : Bool). cond b (line M right l (set (half right l) q false) ⊖ line M right l (set (half right l) q true)) (line M right l (set (half right l) q false) ⊕ line M right l (set (half right l) q true))) (bit-half right l q)
+      ap (λ (b : Bool). cond b (L (set h q false) ⊖ L (set h q true)) (L (set h q false) ⊕ L (set h q true))) (bit-half right l q)
       ∙ ap₂ (λ (u w : Entry). cond (bit l (level-on right q)) (u ⊖ w) (u ⊕ w)) (line-set M right l q false) (line-set M right l q true)
 
-  moved-place : moved rule p q (line M right l) (half right l) ≡ moved rule p (level-on right q) (entries M) l
+  moved-place : moved rule p q L h ≡ moved rule p (level-on right q) (entries M) l
   moved-place = ap₂ (λ (b : Bool) (x : Entry). turned (phase p b) x) (bit-half right l q) (taken-place (rule .flips))
 
   pub acted-place : acted rule p Q q (line M right l) (half right l) ≡ acted rule p P (level-on right q) (entries M) l
   unfolding acted
   acted-place =
-      ap (λ (t : Bool). cond t (cond (rule .mixes) (mixed q (line M right l) (half right l)) (moved rule p q (line M right l) (half right l))) (line M right l (half right l)))
+      ap (λ (t : Bool). cond t (cond (rule .mixes) (mixed q L h) (moved rule p q L h)) (L h))
       (sym (all-set-half right Q P n l spreads size))
-      ∙ ap₂ (λ (u w : Entry). cond (all-set P l) (cond (rule .mixes) u w) (line M right l (half right l))) mixed-place moved-place
-      ∙ ap (λ (u : Entry). cond (all-set P l) (cond (rule .mixes) (mixed (level-on right q) (entries M) l) (moved rule p (level-on right q) (entries M) l)) u) (line-half M right l)
+      ∙ ap₂ (λ (u w : Entry). cond (all-set P l) (cond (rule .mixes) u w) (L h)) mixed-place moved-place
+      ∙ ap (λ (u : Entry). cond (all-set P l) (cond (rule .mixes) (mixed (level-on right q) (entries M) l) (moved rule p (level-on right q) (entries M) l)) u)
+      (line-half M right l)
 
 -- the phases of a side
 abbrev pub phases-on : Bool → Rule → Phases

@@ -18,7 +18,8 @@ use Rattle.gates.specs.declared.Rule.{Rule}
 use Rattle.gates.specs.Gate.{X, Y, Z, H, S, S†, T, T†, Pair, CNOT, CZ, Gate, on, pair, is, bit, Fits}
 use Rattle.gates.specs.Rule.{phases, phase, pair-rule, gate-rule, controls, target, all-set, mixed, moved, acted}
 use Rattle.gates.proofs.Naming.{is-refl, is-sound}
-use Rattle.diagrams.specs.Diagram.{Ref, node, code, Store, node-at, Both, Walk, old-value, new-value, old-node, new-node, reached, levels, entries, same-entry, empty, reduce, diagram}
+use Rattle.diagrams.specs.Diagram.{Ref, node, code, Store, node-at, Both, Walk, old-value, new-value, old-node, new-node, reached}
+use Rattle.diagrams.specs.Diagram.{levels, entries, same-entry, empty, reduce, diagram}
 use Rattle.diagrams.proofs.Again.{reduce-ext}
 use Rattle.diagrams.proofs.Unique.{Seen, seen-more, both-map}
 use Rattle.diagrams.proofs.Places.{levels-double}
@@ -292,7 +293,8 @@ module _ (n : ℕ) (right : Bool) (g : Gate) (M : Matrix) (plan : Plan) (fits : 
 
   start-sound : SoundAt plan source 0 (start root)
   start-sound =
-      let asks : Asks plan source 0 (code root) = record { refers = rw (ref-of-code root) (grown source (diagram-reduced n M .numbered) .seen); from = zero-le } in
+      let seen = grown source (diagram-reduced n M .numbered) .seen in
+      let asks : Asks plan source 0 (code root) = record { refers = rw (ref-of-code root) seen; from = zero-le } in
       sound-on plan source 0 (waiting 0) (code root) (code root) (omega arith)
       (record { x-asks = asks; y-asks = asks; suits = (zero-le, refl, λ j h. absurd (none j h)); ahead = zero-le })
     where

@@ -16,7 +16,8 @@ use Rattle.diagrams.proofs.Tests.{entry-decides}
 use Rattle.diagrams.proofs.Again.{Extends, reduce-step, reduce-ext, reduce-extends, reduce-again, reduce-skip}
 use Rattle.transitions.specs.declared.State.{State}
 use Rattle.transitions.specs.Plan.{Plan}
-use Rattle.transitions.specs.State.{ref-of, level-of, Mode, turning, adding, subtracting, waiting, choosing, mode-of, meant-by, meaning, top-by, top, made, inside}
+use Rattle.transitions.specs.State.{ref-of, level-of, Mode, turning, adding, subtracting, waiting, choosing, mode-of}
+use Rattle.transitions.specs.State.{meant-by, meaning, top-by, top, made, inside}
 use Rattle.transitions.specs.Source.{Refers}
 use Rattle.transitions.specs.Next.{is-value, is-leaf-by, is-leaf, leaf-by, leaf-entry, next-state}
 use Rattle.transitions.specs.Valid.{ValidPlan, ValidState, Suits}
@@ -134,7 +135,8 @@ module _ (plan : Plan) (s : Store Entry) (valid : ValidPlan plan s) where
         ∙ reduce-step same-entry (plan .levels - suc (top plan s σ)) (top plan s σ) (meaning plan s (top plan s σ) σ) t (low .store) (high .store)
         (low .root) (high .root) (half-made false t) (half-made true (low .store))
 
-    half-inside : (b : Bool) → everywhere (plan .levels - suc (top plan s σ)) (λ l. width-test (meaning plan s (top plan s σ) σ) (b ∷ l)) ≡ inside plan s (then b)
+    half-inside : (b : Bool)
+        → everywhere (plan .levels - suc (top plan s σ)) (λ l. width-test (meaning plan s (top plan s σ) σ) (b ∷ l)) ≡ inside plan s (then b)
     half-inside b =
         everywhere-ext (plan .levels - suc (top plan s σ)) (λ l. width-test (meaning plan s (top plan s σ) σ) (b ∷ l))
         (width-test (meaning plan s (suc (top plan s σ)) (then b))) (λ l e. ap (entryInWidth (plan .width)) (half-means b l))

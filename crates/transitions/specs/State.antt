@@ -27,7 +27,8 @@ pub data Mode : Type 0 where
 
 unfoldable pub mode-of : ℕ → Mode
 mode-of m =
-    cond (ltb m 8) (turning m) (cond (eqb m 8) adding (cond (ltb m 16) subtracting (cond (ltb m 64) (waiting (m - 16)) (choosing ((m - 64) / 8) ((m - 64) % 8)))))
+    cond (ltb m 8) (turning m)
+    (cond (eqb m 8) adding (cond (ltb m 16) subtracting (cond (ltb m 64) (waiting (m - 16)) (choosing ((m - 64) / 8) ((m - 64) % 8)))))
 
 -- ---- what a state stands for
 
