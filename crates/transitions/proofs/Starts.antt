@@ -27,7 +27,7 @@ use Rattle.diagrams.proofs.Diagrams.{diagram-reduced}
 use Rattle.transitions.specs.Plan.{Plan, plan-rule, control}
 use Rattle.transitions.specs.State.{ref-of, waiting, meaning, made, inside}
 use Rattle.transitions.specs.Next.{start}
-use Rattle.transitions.specs.Valid.{ValidPlan, ValidState}
+use Rattle.transitions.specs.Valid.{IsZero, ValidPlan, ValidState}
 use Rattle.transitions.specs.Prepare.{as-number, side-level, product-on, PlanFor}
 use Rattle.transitions.proofs.Codes.{ref-of-code}
 use Rattle.transitions.proofs.Stages.{control-none, control-target, control-stage}
@@ -199,11 +199,33 @@ placed n right (pair k p q) plan fits for =
       target-at = at-target;
     }
 
--- the store of a diagram is a source of any plan for a gate, if the plan's zero is one
-pub plan-valid : (n : ℕ) (right : Bool) (g : Gate) (M : Matrix) (plan : Plan) → Fits n g → PlanFor n right g plan → let s = diagram n M .store in
-    ((j : ℕ) → j < length (s .values) → 2 * j ≡ plan .zero → getD (s .values) j 𝟘 ≡ 𝟘)
-    → ((i : ℕ) → i < length (s .nodes) → 2 * i + 1 ≡ plan .zero → ⊥) → ValidPlan plan s
-plan-valid n right g M plan fits for zero-value zero-no-node =
+-- ---- the source's zero
+
+-- the reference of a value that is 0
+pub zero-found : (s : Store Entry) (k z : ℕ) → z ≡ 2 * k → getD (s .values) k 𝟘 ≡ 𝟘 → IsZero s z
+zero-found s k z is-k zero-there = ((λ j below here. ap (λ (m : ℕ). getD (s .values) m 𝟘) (same j here) ∙ zero-there), (λ i below here. odd i here))
+  where
+    same : (j : ℕ) → 2 * j ≡ z → j ≡ k
+    same j here = omega arith
+
+    odd : (i : ℕ) → 2 * i + 1 ≡ z → ⊥
+    odd i here = omega arith
+
+-- 4294967295, where no value is 0
+pub zero-absent : (s : Store Entry) → length (s .nodes) ≤ 65536 → IsZero s 4294967295
+zero-absent s few = ((λ j below here. absurd (even j here)), (λ i below here. past i below here))
+  where
+    even : (j : ℕ) → 2 * j ≡ 4294967295 → ⊥
+    even j here = omega arith
+
+    past : (i : ℕ) → i < length (s .nodes) → 2 * i + 1 ≡ 4294967295 → ⊥
+    past i below here = omega arith
+
+-- ---- the store of a diagram is a source of any plan for a gate
+
+pub plan-valid : (n : ℕ) (right : Bool) (g : Gate) (M : Matrix) (plan : Plan) → Fits n g → PlanFor n right g plan
+    → IsZero (diagram n M .store) (plan .zero) → ValidPlan plan (diagram n M .store)
+plan-valid n right g M plan fits for is-zero =
     let 𝓡 = diagram-reduced n M in
     let at = placed n right g plan fits for in
     let (a, b, c, d) = rule-small g in
@@ -220,8 +242,8 @@ plan-valid n right g M plan fits for zero-value zero-no-node =
       mixes-alone = at .alone;
       phase-zero = let is = ap (λ (p : Phases). p .zero) (for .phases-are) in let below = small .0 in omega arith;
       phase-one = let is = ap (λ (p : Phases). p .one) (for .phases-are) in let below = small .1 in omega arith;
-      zero-value = zero-value;
-      zero-no-node = zero-no-node;
+      zero-value = is-zero .0;
+      zero-no-node = is-zero .1;
     }
 
 -- ---- its controls are the gate's, by level
