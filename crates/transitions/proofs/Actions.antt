@@ -3,7 +3,7 @@
 use mathlib.Core.Path.{_≡_, refl, ap, ap₂}
 use mathlib.Core.Bool.{Bool, true, false, not, cond, _&&_, _||_}
 use mathlib.Core.List.{_∷_}
-use Prim.Native.Nat.{ℕ, zero, suc}
+use Prim.Native.Nat.{ℕ, suc}
 use lib.ListN.{set}
 use Rattle.algebra.specs.declared.Entry.{Entry}
 use Rattle.algebra.specs.Entry.{_⊕_, _⊖_, turned}
@@ -29,7 +29,9 @@ module _ (rule : Rule) (p : Phases) (P : ℕ → Bool) (F : Bits → Entry) (b :
 
       by-first : (t : Bool)
           → cond (t && all-set (λ i. P (suc i)) l) (cond (rule .mixes) (mixed (suc q) F (b ∷ l)) (moved rule p (suc q) F (b ∷ l))) (F (b ∷ l))
-          ≡ cond t (cond (all-set (λ i. P (suc i)) l) (cond (rule .mixes) (mixed q (λ m. F (b ∷ m)) l) (moved rule p q (λ m. F (b ∷ m)) l)) (F (b ∷ l))) (F (b ∷ l))
+          ≡ cond t
+          (cond (all-set (λ i. P (suc i)) l) (cond (rule .mixes) (mixed q (λ m. F (b ∷ m)) l) (moved rule p q (λ m. F (b ∷ m)) l)) (F (b ∷ l)))
+          (F (b ∷ l))
       by-first true = ap (λ (x : Entry). cond (all-set (λ i. P (suc i)) l) (cond (rule .mixes) (mixed (suc q) F (b ∷ l)) x) (F (b ∷ l))) moved-later
       by-first false = refl
 

@@ -1,12 +1,12 @@
 -- References and modes as numbers: each is read back from its number.
 -- Assumes nothing.
 use mathlib.Core.Path.{_≡_, refl, sym, _∙_, ap, ap₂, subst}
-use mathlib.Core.Bool.{Bool, true, false, cond}
+use mathlib.Core.Bool.{Bool, true, false}
 use Prim.Native.Nat.{ℕ, _+_, _-_, _*_, _/_, _%_, _<_, _≤_}
 use native.Mathlib.Omega.{arith}
-use lib.Dec.{eqb, ltb}
+use lib.Dec.{eqb}
 use borrow.Author.Tests.{eq-eqb, ne-eqb, eqb-true, eqb-false, lt-ltb, le-ltb}
-use Rattle.diagrams.specs.Diagram.{Ref, value, node, code, ref-of}
+use Rattle.diagrams.specs.Diagram.{value, node, ref-of}
 use Rattle.transitions.specs.State.{Mode, turning, adding, subtracting, waiting, choosing, mode-of}
 use Rattle.transitions.specs.Next.{mode-code}
 use Rattle.transitions.specs.Valid.{Staged}

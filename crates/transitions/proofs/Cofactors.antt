@@ -3,10 +3,10 @@
 use mathlib.Core.Path.{_≡_, refl, sym, _∙_, ap, subst}
 use mathlib.Core.Bool.{Bool, true, false, cond}
 use mathlib.Core.List.{[], _∷_}
-use Prim.Native.Nat.{ℕ, suc, _+_, _*_, _<_, _≤_}
+use Prim.Native.Nat.{ℕ, suc, _<_, _≤_}
 use native.Mathlib.Omega.{arith}
 use lib.Dec.{eqb}
-use lib.ListN.{length, getD}
+use lib.ListN.{getD}
 use borrow.Author.Tests.{ne-eqb, eqb-true, eqb-false}
 use Rattle.algebra.specs.declared.Entry.{Entry}
 use Rattle.algebra.specs.Entry.{𝟘}
@@ -98,10 +98,13 @@ module _ (plan : Plan) (s : Store Entry) (valid : ValidPlan plan s) where
   below-asks level b (value j) h refers from = (refers, h)
   below-asks level b (node i) h refers from = by-level (eqb (node-at s i .level) level) refl
     where
+      child : (r : Ref) → node-at s i .level ≡ level → Refers s r → From s (suc (node-at s i .level)) r → Refers s r × (level < level-of plan s r)
+      child r e inside from = (inside, from-level level r h (subst (λ (m : ℕ). From s (suc m) r) e from))
+
       children : node-at s i .level ≡ level → (c : Bool) → Refers s (cond c (node-at s i .high) (node-at s i .low))
           × (level < level-of plan s (cond c (node-at s i .high) (node-at s i .low)))
-      children e true = (valid .closed i refers .1, from-level level (node-at s i .high) h (subst (λ (m : ℕ). From s (suc m) (node-at s i .high)) e (valid .levels-rise i refers .1)))
-      children e false = (valid .closed i refers .0, from-level level (node-at s i .low) h (subst (λ (m : ℕ). From s (suc m) (node-at s i .low)) e (valid .levels-rise i refers .0)))
+      children e true = child (node-at s i .high) e (valid .closed i refers .1) (valid .levels-rise i refers .1)
+      children e false = child (node-at s i .low) e (valid .closed i refers .0) (valid .levels-rise i refers .0)
 
       by-level : (t : Bool) → eqb (node-at s i .level) level ≡ t
           → Refers s (cond t (cond b (node-at s i .high) (node-at s i .low)) (node i))

@@ -1,7 +1,7 @@
 -- States that ask no more: when a state is one, by its numbers, and its entry as it is read from the columns.
 -- Assumes nothing.
-use mathlib.Core.Path.{_≡_, refl, sym, _∙_, ap, ap₂, subst}
-use mathlib.Core.Bool.{Bool, true, false, cond, _&&_, true≢false}
+use mathlib.Core.Path.{_≡_, refl, sym, _∙_, ap, ap₂}
+use mathlib.Core.Bool.{Bool, true, false, _&&_, true≢false}
 use mathlib.Core.List.{List}
 use Prim.Native.Nat.{ℕ, _/_, _%_, _<_, _≤_}
 use native.Mathlib.Decide.{decLt}
@@ -9,12 +9,12 @@ use native.Mathlib.Omega.{arith}
 use lib.Dec.{eqb}
 use lib.IntN.{ℤ}
 use lib.ListN.{length}
-use borrow.Author.Tests.{eq-eqb, ne-eqb, eqb-true, eqb-false}
+use borrow.Author.Tests.{eqb-true, eqb-false}
 use Rattle.algebra.specs.declared.Entry.{Entry}
 use Rattle.algebra.specs.Entry.{_⊕_, _⊖_, turned}
-use Rattle.diagrams.specs.Diagram.{Ref, value, node, Store, ref-of}
+use Rattle.diagrams.specs.Diagram.{value, Store, ref-of}
 use Rattle.diagrams.proofs.Tests.{both-true}
-use Rattle.transitions.specs.State.{Mode, adding, subtracting, mode-of}
+use Rattle.transitions.specs.State.{Mode, mode-of}
 use Rattle.transitions.specs.Source.{ValuesHeld, entry-in, Refers, Holds-slot}
 use Rattle.transitions.specs.Next.{numbered, is-value, is-leaf-by, is-leaf, entry-of, leaf-entry}
 use Rattle.transitions.proofs.Codes.{ref-of-odd, ref-of-even, mode-turning, mode-adding, mode-subtracting, mode-waiting, mode-choosing, mode-pair}

@@ -8,4 +8,7 @@ pub mod Cofactors
 pub mod Sound
 pub mod Meanings
 pub mod Needs
+pub mod Plans
+pub mod Sides
 pub mod Walks
+pub mod Starts

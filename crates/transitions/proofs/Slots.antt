@@ -1,7 +1,7 @@
 -- Reading the source's columns: what a slot holds is what the store has there.
 -- Assumes nothing.
 use mathlib.Core.Path.{_≡_, sym, _∙_, ap, subst}
-use mathlib.Core.Bool.{Bool, true, false, cond}
+use mathlib.Core.Bool.{Bool, cond}
 use mathlib.Core.List.{List, [], map}
 use Prim.Native.Nat.{ℕ, zero, suc, _+_, _/_, _%_, _^_, _<_}
 use native.Mathlib.Omega.{arith}
@@ -12,14 +12,13 @@ use lib.Signed.{mag}
 use mir.Facts.{toZ-ofZ}
 use mir.Syntax.{w32}
 use mir.Val.{toZ, ofZ}
-use borrow.Author.Tests.{eq-eqb, ne-eqb, eqb-true, eqb-false}
+use borrow.Author.Tests.{eq-eqb, ne-eqb}
 use Rattle.algebra.specs.declared.Entry.{Entry}
-use Rattle.algebra.specs.Entry.{𝟘}
-use Rattle.diagrams.specs.Diagram.{Ref, value, node, code, Store, node-at, ref-of}
+use Rattle.diagrams.specs.Diagram.{code, Store, node-at, ref-of}
 use Rattle.transitions.specs.Plan.{Plan}
 use Rattle.transitions.specs.State.{level-of}
 use Rattle.transitions.specs.Source.{NodesHeld, Refers}
-use Rattle.transitions.specs.Next.{cofactor, cofactor-by}
+use Rattle.transitions.specs.Next.{cofactor}
 use Rattle.transitions.proofs.Codes.{ref-of-odd, ref-of-even}
 
 -- ---- columns behind references

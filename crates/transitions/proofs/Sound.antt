@@ -1,9 +1,8 @@
 -- Sound states: sound at a level is valid and asks there or later, and each bit leads to a sound state one level on.
 -- Assumes nothing.
-use mathlib.Core.Path.{_≡_, refl, sym, _∙_, ap, subst, subst⁻¹}
+use mathlib.Core.Path.{_≡_, refl, _∙_, ap, subst, subst⁻¹}
 use mathlib.Core.Bool.{Bool, true, false, cond, _&&_}
-use Prim.Native.Nat.{ℕ, suc, _+_, _<_, _≤_, min}
-use native.Mathlib.Decide.{decLt}
+use Prim.Native.Nat.{ℕ, suc, _<_, _≤_}
 use native.Mathlib.Omega.{arith}
 use lib.Dec.{eqb}
 use borrow.Author.Tests.{eqb-true, eqb-false}
@@ -13,10 +12,10 @@ use Rattle.diagrams.specs.Diagram.{Store, ref-of}
 use Rattle.transitions.specs.declared.State.{State}
 use Rattle.transitions.specs.Plan.{Plan, plan-rule}
 use Rattle.transitions.specs.State.{level-of, Mode, turning, adding, subtracting, waiting, choosing, mode-of, top-by, top}
-use Rattle.transitions.specs.Next.{mode-code, numbered, on-both, on-one, cofactor, paired, chosen, at-target, next-by, next-state}
+use Rattle.transitions.specs.Next.{mode-code, on-both, on-one, cofactor, paired, chosen, at-target, next-by, next-state}
 use Rattle.transitions.specs.Valid.{ValidPlan, ValidState, Passed, Suits}
 use Rattle.transitions.proofs.Codes.{Codes, mode-of-code}
-use Rattle.transitions.proofs.Turns.{phase-below}
+use Rattle.transitions.proofs.Stages.{strictly, passed-later, passed-stage, phase-small}
 use Rattle.transitions.proofs.Cofactors.{Asks, level-most, cofactor-asks}
 
 -- ---- sound at a level
@@ -57,15 +56,12 @@ module _ (plan : Plan) (s : Store Entry) where
   unfolding top
   sound-top level σ sound = least-top level (mode-of (σ .mode)) (σ .x) (σ .y) (sound .1)
 
-  passed-later : (k level later : ℕ) → level ≤ later → Passed plan k level → Passed plan k later
-  passed-later k level later h passed j below = let before = passed j below in omega arith
-
   suits-later : (level later : ℕ) (m : Mode) (x y : ℕ) → level ≤ later → Suits plan level m x y → Suits plan later m x y
   suits-later level later (turning e) x y h suits = suits
   suits-later level later adding x y h suits = suits
   suits-later level later subtracting x y h suits = suits
-  suits-later level later (waiting k) x y h suits = (suits .0, suits .1, passed-later k level later h (suits .2))
-  suits-later level later (choosing k e) x y h suits = (suits .0, suits .1, suits .2, passed-later k level later h (suits .3))
+  suits-later level later (waiting k) x y h suits = (suits .0, suits .1, passed-later plan k level later h (suits .2))
+  suits-later level later (choosing k e) x y h suits = (suits .0, suits .1, suits .2, passed-later plan k level later h (suits .3))
 
   pub sound-valid : (level : ℕ) (σ : State) → SoundAt plan s level σ → ValidState plan s σ
   sound-valid level σ sound = record {
@@ -160,21 +156,8 @@ module _ (plan : Plan) (s : Store Entry) (valid : ValidPlan plan s) (level : ℕ
   after : (x : ℕ) (c : Bool) → Asks plan s level x → Asks plan s (suc level) (cofactor s level c x)
   after x c asks = cofactor-asks plan s valid level c x inside asks
 
-  passed-stage : (k : ℕ) → Passed plan k level → plan .stage k ≡ level → Passed plan (suc k) (suc level)
-  passed-stage k passed here j below = by-order (decLt j k)
-    where
-      by-order : Dec (j < k) → plan .stage j < suc level
-      by-order (yes less) = let before = passed j less in omega arith
-      by-order (no last) = let same : j ≡ k = omega arith in omega (arith, ap (plan .stage) same)
-
-  passed-on : (k : ℕ) → Passed plan k level → Passed plan k (suc level)
-  passed-on k passed j below = let before = passed j below in omega arith
-
   stage-after : (k : ℕ) → plan .stage k ≡ level → suc k < plan .stages → suc level ≤ plan .stage (suc k)
   stage-after k here more = let rises = valid .stages-ascend k (suc k) (omega arith) more in omega arith
-
-  phase-small : phase (plan .phases) b < 8
-  phase-small = phase-below (plan .phases) b refl (valid .phase-zero) (valid .phase-one)
 
   at-target-sound : (x : ℕ) → Asks plan s level x → Passed plan (plan .target) level → plan .stage (plan .target) ≡ level
       → SoundAt plan s (suc level) (at-target plan s level b (suc (plan .target)) x)
@@ -187,8 +170,8 @@ module _ (plan : Plan) (s : Store Entry) (valid : ValidPlan plan s) (level : ℕ
       by-mixes true = paired-sound plan s valid (suc level) (cofactor s level false x) (cofactor s level true x) (after x false asks) (after x true asks) b
       by-mixes false =
           chosen-sound plan s valid (suc level) (cofactor s level b x) (cofactor s level (flipped (plan-rule plan) b) x) (after x b asks)
-          (after x (flipped (plan-rule plan) b) asks) (suc (plan .target)) (phase (plan .phases) b) phase-small
-          (valid .has-target) (omega arith) (passed-stage (plan .target) passed here) (stage-after (plan .target) here)
+          (after x (flipped (plan-rule plan) b) asks) (suc (plan .target)) (phase (plan .phases) b) (phase-small plan s valid b)
+          (valid .has-target) (omega arith) (passed-stage plan (plan .target) level passed here) (stage-after (plan .target) here)
 
   few : (k : ℕ) → k < plan .stages → k < 48
   few k below = let most = valid .few-stages in omega arith
@@ -197,7 +180,8 @@ module _ (plan : Plan) (s : Store Entry) (valid : ValidPlan plan s) (level : ℕ
       → SoundAt plan s (suc level) (on-one (waiting k) x)
   waiting-sound k x before asks passed ahead =
       let target-below = valid .has-target in
-      sound-on plan s (suc level) (waiting k) x x (few k (omega arith)) (record { x-asks = asks; y-asks = asks; suits = (before, refl, passed); ahead = ahead })
+      sound-on plan s (suc level) (waiting k) x x (few k (omega arith))
+      (record { x-asks = asks; y-asks = asks; suits = (before, refl, passed); ahead = ahead })
 
   next-sound-by : (m : Mode) (x y : ℕ) → Sound plan s level m x y → SoundAt plan s (suc level) (next-by plan s level b m x y)
   next-sound-by (turning e) x y sound = alone-sound plan s valid (suc level) e (cofactor s level b x) (sound .suits .0) (after x b (sound .x-asks))
@@ -219,25 +203,22 @@ module _ (plan : Plan) (s : Store Entry) (valid : ValidPlan plan s) (level : ℕ
       at-stage here false e = by-bit b
         where
           before-target : suc k ≤ plan .target
-          before-target = let other = eqb-false _ _ e in let up-to = sound .suits .0 in strict up-to other
-            where
-              strict : k ≤ plan .target → (plan .target ≡ k → ⊥) → suc k ≤ plan .target
-              strict up-to other = omega arith
+          before-target = strictly (sound .suits .0) (eqb-false _ _ e)
 
           by-bit : (c : Bool) → SoundAt plan s (suc level) (on-one (cond c (waiting (suc k)) (turning 0)) (cofactor s level b x))
           by-bit true =
               let target-below = valid .has-target in
-              waiting-sound (suc k) (cofactor s level b x) before-target own (passed-stage k (sound .suits .2) here) (stage-after k here (omega (arith, before-target)))
+              waiting-sound (suc k) (cofactor s level b x) before-target own (passed-stage plan k level (sound .suits .2) here)
+              (stage-after k here (omega (arith, before-target)))
           by-bit false = alone-sound plan s valid (suc level) 0 (cofactor s level b x) (omega arith) own
 
       by-stage : (t : Bool) → eqb (plan .stage k) level ≡ t → SoundAt plan s (suc level) (cond t
           (cond (eqb (plan .target) k) (at-target plan s level b (suc k) x) (on-one (cond b (waiting (suc k)) (turning 0)) (cofactor s level b x)))
           (on-one (waiting k) (cofactor s level b x)))
       by-stage true e = at-stage (eqb-true _ _ e) (eqb (plan .target) k) refl
-      by-stage false e = waiting-sound k (cofactor s level b x) (sound .suits .0) own (passed-on k (sound .suits .2)) (later (eqb-false _ _ e) (sound .ahead))
-        where
-          later : (plan .stage k ≡ level → ⊥) → level ≤ plan .stage k → suc level ≤ plan .stage k
-          later other up-to = omega arith
+      by-stage false e =
+          waiting-sound k (cofactor s level b x) (sound .suits .0) own (passed-later plan k level (suc level) (omega arith) (sound .suits .2))
+          (strictly (sound .ahead) (eqb-false _ _ e))
   next-sound-by (choosing k e) x y sound = by-stage (eqb (plan .stage k) level) refl
     where
       own : Asks plan s (suc level) (cofactor s level b x)
@@ -252,7 +233,7 @@ module _ (plan : Plan) (s : Store Entry) (valid : ValidPlan plan s) (level : ℕ
       at-stage here true =
           let past = sound .suits .0 in
           chosen-sound plan s valid (suc level) (cofactor s level b x) (cofactor s level b y) own other (suc k) e (sound .suits .2) (sound .suits .1)
-          (omega arith) (passed-stage k (sound .suits .3) here) (stage-after k here)
+          (omega arith) (passed-stage plan k level (sound .suits .3) here) (stage-after k here)
       at-stage here false = alone-sound plan s valid (suc level) 0 (cofactor s level b x) (omega arith) own
 
       by-stage : (t : Bool) → eqb (plan .stage k) level ≡ t → SoundAt plan s (suc level) (cond t
@@ -262,10 +243,7 @@ module _ (plan : Plan) (s : Store Entry) (valid : ValidPlan plan s) (level : ℕ
       by-stage false elsewhere =
           let below = sound .suits .1 in
           chosen-sound plan s valid (suc level) (cofactor s level b x) (cofactor s level b y) own other k e (sound .suits .2) (omega arith)
-          (sound .suits .0) (passed-on k (sound .suits .3)) (λ h. later (eqb-false _ _ elsewhere) (sound .ahead))
-        where
-          later : (plan .stage k ≡ level → ⊥) → level ≤ plan .stage k → suc level ≤ plan .stage k
-          later apart up-to = omega arith
+          (sound .suits .0) (passed-later plan k level (suc level) (omega arith) (sound .suits .3)) (λ h. strictly (sound .ahead) (eqb-false _ _ elsewhere))
 
   -- a bit leads from a sound state to a sound state one level on
   pub next-sound : (σ : State) → SoundAt plan s level σ → SoundAt plan s (suc level) (next-state plan s level b σ)

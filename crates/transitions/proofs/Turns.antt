@@ -13,7 +13,7 @@ use Rattle.gates.specs.Rule.{phase, flipped}
 use Rattle.diagrams.specs.Diagram.{Store, ref-of}
 use Rattle.transitions.specs.Plan.{Plan, plan-rule}
 use Rattle.transitions.specs.State.{level-of, Mode, turning, waiting, choosing, mode-of, top-by, top}
-use Rattle.transitions.specs.Next.{mode-code, numbered, on-both, on-one, cofactor, paired, chosen, at-target, next-by, next-state}
+use Rattle.transitions.specs.Next.{mode-code, numbered, on-both, cofactor, paired, chosen, at-target, next-by, next-state}
 use Rattle.transitions.proofs.Codes.{mode-pair}
 use Rattle.transitions.proofs.Slots.{bit-cases}
 
@@ -24,6 +24,12 @@ cond-true b x y e = ap (λ (t : Bool). cond t x y) (sym e)
 
 pub cond-false : {A : Type 0} (b : Bool) (x y : A) → b ≡ false → y ≡ cond b x y
 cond-false b x y e = ap (λ (t : Bool). cond t x y) (sym e)
+
+pub bit-clear : (bit : ℕ) → bit ≡ 0 → eqb bit 1 ≡ false
+bit-clear bit clear = ap (λ (b : ℕ). eqb b 1) clear
+
+pub bit-set : (bit : ℕ) → bit < 2 → (bit ≡ 0 → ⊥) → eqb bit 1 ≡ true
+bit-set bit a-bit set = eq-eqb bit 1 (omega arith)
 
 -- ---- the target's question
 

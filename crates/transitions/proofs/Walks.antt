@@ -1,22 +1,23 @@
 -- The walk over the states: each bit leads to a valid state that asks later, a state that asks no more is a terminal, any other
 -- is a node over its two next states; what it makes only grows a store, and is found there again.
 -- Assumes nothing.
-use mathlib.Core.Path.{_≡_, refl, sym, _∙_, ap, ap₂, subst, _≡⟨_⟩_, _∎}
-use mathlib.Core.Bool.{Bool, true, false, cond, _&&_, true≢false}
+use mathlib.Core.Path.{_≡_, refl, sym, _∙_, ap, ap₂}
+use mathlib.Core.Bool.{Bool, true, false, _&&_, true≢false}
 use mathlib.Core.List.{[], _∷_}
-use Prim.Native.Nat.{ℕ, zero, suc, _+_, _-_, _<_, _≤_, min}
+use Prim.Native.Nat.{ℕ, zero, suc, _+_, _-_, _<_, _≤_}
 use native.Mathlib.Omega.{arith}
 use lib.ListN.{length}
 use Rattle.algebra.specs.declared.Entry.{Entry}
-use Rattle.algebra.specs.Entry.{𝟘, _⊕_, _⊖_, turned}
+use Rattle.algebra.specs.Entry.{_⊕_, _⊖_, turned}
 use Rattle.algebra.specs.Matrix.{Bits, everywhere}
 use Rattle.algebra.specs.Width.{entryInWidth}
-use Rattle.diagrams.specs.Diagram.{Ref, value, node, branch, Store, Diagram, rooted, same-entry, put-value, make-node, reduce, ref-of}
+use Rattle.diagrams.specs.Diagram.{Ref, value, node, branch, Store, rooted, same-entry, put-value, make-node, reduce, ref-of}
 use Rattle.diagrams.proofs.Tests.{entry-decides}
 use Rattle.diagrams.proofs.Again.{Extends, reduce-step, reduce-ext, reduce-extends, reduce-again, reduce-skip}
 use Rattle.transitions.specs.declared.State.{State}
 use Rattle.transitions.specs.Plan.{Plan}
-use Rattle.transitions.specs.State.{level-of, Mode, turning, adding, subtracting, waiting, choosing, mode-of, meant-by, meaning, top-by, top, made, inside}
+use Rattle.transitions.specs.State.{level-of, Mode, turning, adding, subtracting, waiting, choosing, mode-of}
+use Rattle.transitions.specs.State.{meant-by, meaning, top-by, top, made, inside}
 use Rattle.transitions.specs.Source.{Refers}
 use Rattle.transitions.specs.Next.{is-value, is-leaf-by, is-leaf, leaf-by, leaf-entry, next-state}
 use Rattle.transitions.specs.Valid.{ValidPlan, ValidState, Suits}
@@ -134,7 +135,8 @@ module _ (plan : Plan) (s : Store Entry) (valid : ValidPlan plan s) where
         ∙ reduce-step same-entry (plan .levels - suc (top plan s σ)) (top plan s σ) (meaning plan s (top plan s σ) σ) t (low .store) (high .store)
         (low .root) (high .root) (half-made false t) (half-made true (low .store))
 
-    half-inside : (b : Bool) → everywhere (plan .levels - suc (top plan s σ)) (λ l. width-test (meaning plan s (top plan s σ) σ) (b ∷ l)) ≡ inside plan s (then b)
+    half-inside : (b : Bool)
+        → everywhere (plan .levels - suc (top plan s σ)) (λ l. width-test (meaning plan s (top plan s σ) σ) (b ∷ l)) ≡ inside plan s (then b)
     half-inside b =
         everywhere-ext (plan .levels - suc (top plan s σ)) (λ l. width-test (meaning plan s (top plan s σ) σ) (b ∷ l))
         (width-test (meaning plan s (suc (top plan s σ)) (then b))) (λ l e. ap (entryInWidth (plan .width)) (half-means b l))

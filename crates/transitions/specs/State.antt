@@ -1,5 +1,5 @@
 -- The states of a step's walk: what each stands for, where it asks next, and the diagram that it makes. Definitions only.
-use mathlib.Core.Bool.{Bool, true, false, cond}
+use mathlib.Core.Bool.{Bool, cond}
 use Prim.Native.Nat.{ℕ, _+_, _-_, _/_, _%_, min}
 use lib.Dec.{eqb, ltb}
 use Rattle.algebra.specs.declared.Entry.{Entry}
@@ -23,7 +23,8 @@ pub data Mode : Type 0 where
 
 unfoldable pub mode-of : ℕ → Mode
 mode-of m =
-    cond (ltb m 8) (turning m) (cond (eqb m 8) adding (cond (ltb m 16) subtracting (cond (ltb m 64) (waiting (m - 16)) (choosing ((m - 64) / 8) ((m - 64) % 8)))))
+    cond (ltb m 8) (turning m)
+    (cond (eqb m 8) adding (cond (ltb m 16) subtracting (cond (ltb m 64) (waiting (m - 16)) (choosing ((m - 64) / 8) ((m - 64) % 8)))))
 
 -- ---- what a state stands for
 

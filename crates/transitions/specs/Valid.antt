@@ -16,6 +16,11 @@ use Rattle.transitions.specs.Next.{mode-code}
 
 -- ---- plans
 
+-- a number that is the reference of a value that is 0, or of nothing in the store
+abbrev pub IsZero : Store Entry → ℕ → Type 0
+IsZero s z =
+    ((j : ℕ) → j < length (s .values) → 2 * j ≡ z → getD (s .values) j 𝟘 ≡ 𝟘) × ((i : ℕ) → i < length (s .nodes) → 2 * i + 1 ≡ z → ⊥)
+
 -- a plan for a source: the source's levels rise and lie below the plan's, and its nodes' children are its own; the stages
 -- ascend below the levels, one of them is the target's, and it is the only one where the gate mixes; the zero is the source's,
 -- or none

@@ -66,9 +66,10 @@ least-requires-4 c κs = search needs
 returns-4 : tie.Need-returns-4
 unfolding top
 returns-4 c = λ s held x-refers y-refers.
-    rw (mode-choosing _ (c .before .before .before .before .if3 .left))
-    (c .least4 .ensures
-    ∙ ap₂ min (c .before .before .least3 .ensures ∙ ap₂ min (c .before .before .before .before .before .before .before .level-at .ensures s held x-refers) (c .before .before .before .level-at3 .ensures s held y-refers)) refl)
+    let at-y = c .before .before .before in
+    let at-x = at-y .before .before .before .before in
+    let both = c .before .before .least3 .ensures ∙ ap₂ min (at-x .level-at .ensures s held x-refers) (at-y .level-at3 .ensures s held y-refers) in
+    rw (mode-choosing _ (at-y .before .if3 .left)) (c .least4 .ensures ∙ ap₂ min both refl)
 
 pub asked-spec : {M : Type 1} → statement M
 asked-spec =

@@ -24,9 +24,11 @@ paired-requires c κs = search needs
 
 returns : tie.Need-returns
 returns c = λ s held refers.
+    let at-low = c .before .before in
+    let start = at-low .before .before .before in
     c .paired .ensures
-    ∙ at-target-mixes _ s _ _ _ _ _ _ (c .before .before .before .before .before .pre .a-bit) (eq-eqb _ _ (c .before .before .before .if1 .taken))
-    (c .before .before .cofactor .ensures s held refers) (c .before .cofactor2 .ensures s held refers)
+    ∙ at-target-mixes _ s _ _ _ _ _ _ (start .pre .a-bit) (eq-eqb _ _ (at-low .before .if1 .taken))
+    (at-low .cofactor .ensures s held refers) (c .before .cofactor2 .ensures s held refers)
 
 cofactor-requires-3 : tie.Need-cofactor-requires-3
 cofactor-requires-3 c κs = search needs
@@ -41,14 +43,19 @@ phase-at-requires : tie.Need-phase-at-requires
 phase-at-requires c κs = search needs
 
 chosen-requires : tie.Need-chosen-requires
-chosen-requires c κs = (c .before .before .before .before .before .before .pre .few, phase-below _ (eqb (c .before .before .before .before .before .before .args .bit) 1) (c .phase-at .ensures) (c .before .before .before .before .before .before .pre .phase-zero) (c .before .before .before .before .before .before .pre .phase-one))
+chosen-requires c κs = let start = c .before .before .before .before .before .before in
+    (start .pre .few, phase-below _ (eqb (start .args .bit) 1) (c .phase-at .ensures) (start .pre .phase-zero) (start .pre .phase-one))
 
 returns-2 : tie.Need-returns-2
 returns-2 c = λ s held refers.
+    let at-other = c .before .before in
+    let at-bit = at-other .before in
+    let at-own = at-bit .before in
+    let start = at-own .before .before .before in
     c .chosen .ensures
-    ∙ at-target-moves _ s _ _ _ (eqb (c .before .before .before .before .before .before .before .args .bit) 1) (c .before .before .before .taken-from .result) _ _ _ (ne-eqb _ _ (c .before .before .before .before .before .if1 .left))
-    (c .before .before .before .taken-from .ensures .1) (c .before .phase-at .ensures)
-    (c .before .before .before .before .cofactor3 .ensures s held refers) (c .before .before .cofactor4 .ensures s held refers)
+    ∙ at-target-moves _ s _ _ _ (eqb (start .args .bit) 1) (at-bit .taken-from .result) _ _ _ (ne-eqb _ _ (at-own .before .if1 .left))
+    (at-bit .taken-from .ensures .1) (c .before .phase-at .ensures)
+    (at-own .cofactor3 .ensures s held refers) (at-other .cofactor4 .ensures s held refers)
 
 pub at-target-spec : {M : Type 1} → statement M
 at-target-spec =

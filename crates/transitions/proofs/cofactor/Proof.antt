@@ -32,13 +32,15 @@ index-1-result : tie.Need-index-1-result
 index-1-result c = search needs
 
 index-2-result : tie.Need-index-2-result
-index-2-result c = slot-behind now (c .before .before .before .args .src .now) _ _ _ (c .before .before .before .pre .1 (c .before .before .if1 .taken) _ (omega arith))
+index-2-result c = let start = c .before .before .before in
+    slot-behind now (start .args .src .now) _ _ _ (start .pre .1 (c .before .before .if1 .taken) _ (omega arith))
 
 returns : tie.Need-returns
 returns c = λ s held refers.
-    behind-slot now (c .before .before .before .before .args .src .now) _ _ _ 0
-    ∙ cofactor-asked s _ refers (c .before .before .before .if1 .taken) _ held _ _ (c .before .before .before .before .pre .0)
-    (sym (behind-slot now (c .before .before .before .before .args .src .now) 0 _ _ 0) ∙ c .before .if2 .taken)
+    let start = c .before .before .before .before in
+    behind-slot now (start .args .src .now) _ _ _ 0
+    ∙ cofactor-asked s _ refers (c .before .before .before .if1 .taken) _ held _ _ (start .pre .0)
+    (sym (behind-slot now (start .args .src .now) 0 _ _ 0) ∙ c .before .if2 .taken)
 
 returns-2 : tie.Need-returns-2
 returns-2 c = λ s held refers.

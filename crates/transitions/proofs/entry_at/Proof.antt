@@ -19,7 +19,15 @@ number-at-requires-4 : tie.Need-number-at-requires-4
 number-at-requires-4 c κs = search needs
 
 returns : tie.Need-returns
-returns c = λ i. entry ((number-held (c .before .before .before .number-at .ok) ∙ c .before .before .before .number-at .ensures) i) ((number-held (c .before .before .number-at2 .ok) ∙ c .before .before .number-at2 .ensures) i) ((number-held (c .before .number-at3 .ok) ∙ c .before .number-at3 .ensures) i) ((number-held (c .number-at4 .ok) ∙ c .number-at4 .ensures) i)
+returns c = let a = c .before .before .before .number-at in
+    let b = c .before .before .number-at2 in
+    let r = c .before .number-at3 in
+    let d = c .number-at4 in
+    λ i. entry
+    ((number-held (a .ok) ∙ a .ensures) i)
+    ((number-held (b .ok) ∙ b .ensures) i)
+    ((number-held (r .ok) ∙ r .ensures) i)
+    ((number-held (d .ok) ∙ d .ensures) i)
 
 pub entry-at-spec : {M : Type 1} → statement M
 entry-at-spec =

@@ -11,7 +11,8 @@ unfolding is-leaf
 returns c = rw (mode-turning _ (c .if1 .taken)) (value-even (c .before .args .x))
 
 returns-2 : tie.Need-returns-2
-returns-2 c = value-even (c .before .before .before .args .y) ∙ leaf-pair _ _ _ (c .before .before .if1 .left) (c .before .if2 .taken) (value-true _ (c .if3 .taken))
+returns-2 c = let start = c .before .before .before in
+    value-even (start .args .y) ∙ leaf-pair _ _ _ (c .before .before .if1 .left) (c .before .if2 .taken) (value-true _ (c .if3 .taken))
 
 returns-3 : tie.Need-returns-3
 returns-3 c = leaf-not-pair _ _ _ (c .before .before .if1 .left) (c .before .if2 .taken) (value-false _ (c .if3 .left))

@@ -25,17 +25,21 @@ sum-requires c κs = search needs
 
 returns-2 : tie.Need-returns-2
 returns-2 c = λ s held x-refers y-refers leaf.
+    let at-y = c .before .before in
+    let at-x = at-y .before .before in
     c .sum .ensures ∙ ap (bounded _)
-    (leaf-adding s _ _ _ _ held x-refers y-refers leaf (c .before .before .before .before .entry-at .ensures) (c .before .before .entry-at2 .ensures) (c .before .if2 .taken))
+    (leaf-adding s _ _ _ _ held x-refers y-refers leaf (at-x .entry-at .ensures) (at-y .entry-at2 .ensures) (c .before .if2 .taken))
 
 difference-requires : tie.Need-difference-requires
 difference-requires c κs = search needs
 
 returns-3 : tie.Need-returns-3
 returns-3 c = λ s held x-refers y-refers leaf.
+    let at-y = c .before .before in
+    let at-x = at-y .before .before in
     c .difference .ensures ∙ ap (bounded _)
-    (leaf-subtracting s _ _ _ _ held x-refers y-refers leaf (c .before .before .before .before .entry-at .ensures) (c .before .before .entry-at2 .ensures)
-    (c .before .before .before .if1 .left) (c .before .if2 .left))
+    (leaf-subtracting s _ _ _ _ held x-refers y-refers leaf (at-x .entry-at .ensures) (at-y .entry-at2 .ensures)
+    (at-y .before .if1 .left) (c .before .if2 .left))
 
 pub leaf-spec : {M : Type 1} → statement M
 leaf-spec =

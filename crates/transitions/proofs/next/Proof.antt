@@ -14,8 +14,9 @@ cofactor-requires c κs = search needs
 
 returns : tie.Need-returns
 unfolding next-state
-returns c = λ s held x-refers y-refers.
-    rw (mode-turning _ (c .before .if1 .taken)) (ap (λ (own : ℕ). numbered own own (c .before .before .args .mode)) (c .cofactor .ensures s held x-refers))
+returns c = λ s held x-refers y-refers. rw
+    (mode-turning _ (c .before .if1 .taken))
+    (ap (λ (own : ℕ). numbered own own (c .before .before .args .mode)) (c .cofactor .ensures s held x-refers))
 
 cofactor-requires-2 : tie.Need-cofactor-requires-2
 cofactor-requires-2 c κs = search needs
@@ -28,20 +29,23 @@ paired-requires c κs = search needs
 
 returns-2 : tie.Need-returns-2
 returns-2 c = λ s held x-refers y-refers.
-    c .paired .ensures ∙ ap₂ (paired _ _) (c .before .before .cofactor2 .ensures s held x-refers) (c .before .cofactor3 .ensures s held y-refers)
-    ∙ next-pair _ s _ _ _ _ _ (c .before .before .before .before .if1 .left) (c .before .before .before .if2 .taken) (c .before .before .before .before .before .pre .1 .coded)
+    let at-x = c .before .before in
+    let start = at-x .before .before .before in
+    c .paired .ensures ∙ ap₂ (paired _ _) (at-x .cofactor2 .ensures s held x-refers) (c .before .cofactor3 .ensures s held y-refers)
+    ∙ next-pair _ s _ _ _ _ _ (at-x .before .before .if1 .left) (at-x .before .if2 .taken) (start .pre .1 .coded)
 
 next-waiting-requires : tie.Need-next-waiting-requires
-next-waiting-requires c κs = (
-  stage-waiting _ (c .before .if2 .left) (c .if3 .taken) (c .before .before .before .pre .1 .staged),
-  record {
-    a-bit = c .before .before .before .pre .0;
-    few = omega (arith, stage-waiting _ (c .before .if2 .left) (c .if3 .taken) (c .before .before .before .pre .1 .staged));
-    readable = c .before .before .before .pre .1 .x-readable;
-    phase-zero = c .before .before .before .pre .1 .phase-zero;
-    phase-one = c .before .before .before .pre .1 .phase-one;
-  },
-)
+next-waiting-requires c κs = let start = c .before .before .before in
+    let few = stage-waiting _ (c .before .if2 .left) (c .if3 .taken) (start .pre .1 .staged) in (
+      few,
+      record {
+        a-bit = start .pre .0;
+        few = omega arith;
+        readable = start .pre .1 .x-readable;
+        phase-zero = start .pre .1 .phase-zero;
+        phase-one = start .pre .1 .phase-one;
+      },
+    )
 
 returns-3 : tie.Need-returns-3
 unfolding next-state
@@ -49,7 +53,9 @@ returns-3 c = λ s held x-refers y-refers.
     rw (mode-waiting _ (c .before .before .if2 .left) (c .before .if3 .taken)) (c .next-waiting .ensures s held x-refers)
 
 next-choosing-requires : tie.Need-next-choosing-requires
-next-choosing-requires c κs = (stage-choosing _ (c .if3 .left) (c .before .before .before .pre .1 .staged), omega arith, c .before .before .before .pre .0, c .before .before .before .pre .1 .x-readable, c .before .before .before .pre .1 .y-readable)
+next-choosing-requires c κs = let start = c .before .before .before in
+    let few = stage-choosing _ (c .if3 .left) (start .pre .1 .staged) in
+    (few, omega arith, start .pre .0, start .pre .1 .x-readable, start .pre .1 .y-readable)
 
 returns-4 : tie.Need-returns-4
 unfolding next-state

@@ -29,13 +29,21 @@ chosen-requires c κs = search needs
 
 returns : tie.Need-returns
 returns c = λ s held x-refers y-refers.
+    let at-y = c .before .before .before .before in
+    let at-x = at-y .before in
+    let start = at-x .before in
     c .chosen .ensures
-    ∙ choosing-set (plan-of (now (c .before .before .before .before .before .before .args .plan))) s _ _ _ _ _ (eqb (c .before .before .before .before .before .before .args .bit) 1) _ _ (c .before .before .before .before .before .cofactor .ensures s held x-refers) (c .before .before .before .before .cofactor2 .ensures s held y-refers)
+    ∙ choosing-set (plan-of (now (start .args .plan))) s _ _ _ _ _ (eqb (start .args .bit) 1) _ _
+    (at-x .cofactor .ensures s held x-refers) (at-y .cofactor2 .ensures s held y-refers)
     (c .before .before .if1 .taken) (eq-eqb _ _ (c .before .if2 .taken))
 
 returns-2 : tie.Need-returns-2
 returns-2 c = λ s held x-refers y-refers.
-    choosing-clear (plan-of (now (c .before .before .before .before .before .args .plan))) s _ _ (c .before .before .before .before .before .args .e) _ _ (eqb (c .before .before .before .before .before .args .bit) 1) _ _ (c .before .before .before .before .cofactor .ensures s held x-refers) (c .before .before .before .cofactor2 .ensures s held y-refers)
+    let at-y = c .before .before .before in
+    let at-x = at-y .before in
+    let start = at-x .before in
+    choosing-clear (plan-of (now (start .args .plan))) s _ _ (start .args .e) _ _ (eqb (start .args .bit) 1) _ _
+    (at-x .cofactor .ensures s held x-refers) (at-y .cofactor2 .ensures s held y-refers)
     (c .before .if1 .taken) (ne-eqb _ _ (c .if2 .left))
 
 chosen-requires-2 : tie.Need-chosen-requires-2
@@ -43,7 +51,12 @@ chosen-requires-2 c κs = search needs
 
 returns-3 : tie.Need-returns-3
 returns-3 c = λ s held x-refers y-refers.
-    c .chosen2 .ensures ∙ choosing-passed (plan-of (now (c .before .before .before .before .before .args .plan))) s _ _ _ _ _ (eqb (c .before .before .before .before .before .args .bit) 1) _ _ (c .before .before .before .before .cofactor .ensures s held x-refers) (c .before .before .before .cofactor2 .ensures s held y-refers) (c .before .if1 .left)
+    let at-y = c .before .before .before in
+    let at-x = at-y .before in
+    let start = at-x .before in
+    c .chosen2 .ensures
+    ∙ choosing-passed (plan-of (now (start .args .plan))) s _ _ _ _ _ (eqb (start .args .bit) 1) _ _
+    (at-x .cofactor .ensures s held x-refers) (at-y .cofactor2 .ensures s held y-refers) (c .before .if1 .left)
 
 pub next-choosing-spec : {M : Type 1} → statement M
 next-choosing-spec =
