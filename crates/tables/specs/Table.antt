@@ -12,9 +12,6 @@ use Rattle.transitions.specs.Plan.{Plan}
 
 -- ---- the slot of a state
 
-abbrev pub state : ℕ → ℕ → ℕ → State
-state x y mode = record { x = x; y = y; mode = mode }
-
 -- Three regions hold one number for each reference: those of the modes that the gate's two phases leave, and of a gate that
 -- has yet to act. All other modes share the entries after them.
 abbrev pub region : Plan → ℕ → ℕ

@@ -7,7 +7,8 @@ ghost use mathlib.Core.Path.{_≡_};
 ghost use Prim.Native.Nat.{_≤_};
 ghost use lib.ListN.{length};
 ghost use Rattle.transitions.specs.Plan.{plan-of};
-ghost use Rattle.tables.specs.Table.{state, slot-of, recalled, noted, TableSizes, AtSlot, table-size, cleared};
+ghost use Rattle.transitions.specs.Next.{numbered};
+ghost use Rattle.tables.specs.Table.{slot-of, recalled, noted, TableSizes, AtSlot, table-size, cleared};
 
 // Nothing is known.
 pub const UNSETTLED: u32 = 4294967293;
@@ -21,7 +22,7 @@ const WAITING: u32 = 16;
 // Where the table has a state: a number of one of three regions, or an entry of four.
 pub fn slot(plan: &[u32; 32], x: u32, y: u32, mode: u32) -> usize
     requires { ⌜ TableSizes (plan-of (now plan)) ⌝ }
-    ensures { λ r. ⌜ r ≡ slot-of (plan-of (now (plan .entry))) (state x y mode) ⌝ }
+    ensures { λ r. ⌜ r ≡ slot-of (plan-of (now (plan .entry))) (numbered x y mode) ⌝ }
 {
     let span = plan[SPAN] as usize;
     if mode == plan[PHASE_ZERO] {
@@ -41,8 +42,8 @@ pub fn slot(plan: &[u32; 32], x: u32, y: u32, mode: u32) -> usize
 
 // What is known of a state, given its slot.
 pub fn recall(memo: &[u32], plan: &[u32; 32], at: usize, x: u32, y: u32, mode: u32) -> u32
-    requires { ⌜ AtSlot (plan-of (now plan)) (now memo) at (state x y mode) ⌝ }
-    ensures { λ r. ⌜ r ≡ recalled (plan-of (now (plan .entry))) (now (memo .entry)) (state x y mode) ⌝ }
+    requires { ⌜ AtSlot (plan-of (now plan)) (now memo) at (numbered x y mode) ⌝ }
+    ensures { λ r. ⌜ r ≡ recalled (plan-of (now (plan .entry))) (now (memo .entry)) (numbered x y mode) ⌝ }
 {
     if at < 3 * plan[SPAN] as usize {
         let kept = memo[at];
@@ -63,8 +64,8 @@ pub fn recall(memo: &[u32], plan: &[u32; 32], at: usize, x: u32, y: u32, mode: u
 
 // Keep what was found for a state, given its slot.
 pub fn note(memo: &mut [u32], plan: &[u32; 32], at: usize, x: u32, y: u32, mode: u32, answer: u32)
-    requires { ⌜ AtSlot (plan-of (now plan)) (now memo) at (state x y mode) ⌝ }
-    ensures { λ _. ⌜ now (memo .exit) ≡ noted (plan-of (now (plan .entry))) (now (memo .entry)) (state x y mode) answer ⌝ }
+    requires { ⌜ AtSlot (plan-of (now plan)) (now memo) at (numbered x y mode) ⌝ }
+    ensures { λ _. ⌜ now (memo .exit) ≡ noted (plan-of (now (plan .entry))) (now (memo .entry)) (numbered x y mode) answer ⌝ }
 {
     if at < 3 * plan[SPAN] as usize {
         if answer < LARGEST {

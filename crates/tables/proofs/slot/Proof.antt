@@ -6,7 +6,8 @@ use native.Mathlib.Omega.{arith}
 use borrow.Author.Needs.{needs}
 use lib.Dec.{lit<}
 use Rattle.transitions.specs.Plan.{plan-of}
-use Rattle.tables.specs.Table.{state, bucket}
+use Rattle.transitions.specs.Next.{numbered}
+use Rattle.tables.specs.Table.{bucket}
 use Rattle.tables.proofs.Slots.{region-zero, region-one, region-waiting, region-shared, slot-alone, slot-shared, share-limit, bucket-limit}
 use Rattle.tables.proofs.slot.Statement.{statement}
 use Rattle.tables.proofs.slot.Tie as tie
@@ -24,7 +25,7 @@ returns : tie.Need-returns
 returns c =
     let a = c .before .before .before .args in
     let plan = plan-of (a .plan .now) in
-    omega (arith, slot-alone plan (state (a .x) (a .y) (a .mode)) 0 (lit< tt) (region-zero plan (a .mode) (c .if1 .taken)))
+    omega (arith, slot-alone plan (numbered (a .x) (a .y) (a .mode)) 0 (lit< tt) (region-zero plan (a .mode) (c .if1 .taken)))
 
 element-copy-out-if2 : tie.Need-element-copy-out-if2
 element-copy-out-if2 c = search needs
@@ -37,7 +38,7 @@ returns-2 c =
     let a = c .before .before .before .before .before .args in
     let plan = plan-of (a .plan .now) in
     let region = region-one plan (a .mode) (c .before .before .if1 .left) (c .if2 .taken) in
-    omega (arith, slot-alone plan (state (a .x) (a .y) (a .mode)) 1 (lit< tt) region)
+    omega (arith, slot-alone plan (numbered (a .x) (a .y) (a .mode)) 1 (lit< tt) region)
 
 mul-result : tie.Need-mul-result
 mul-result c = search needs
@@ -50,7 +51,7 @@ returns-3 c =
     let a = c .before .before .before .before .before .before .args in
     let plan = plan-of (a .plan .now) in
     let region = region-waiting plan (a .mode) (c .before .before .before .if1 .left) (c .before .if2 .left) (c .if3 .taken) in
-    sym (slot-alone plan (state (a .x) (a .y) (a .mode)) 2 (lit< tt) region)
+    sym (slot-alone plan (numbered (a .x) (a .y) (a .mode)) 2 (lit< tt) region)
 
 cast-mixed : tie.Need-cast-mixed
 cast-mixed c = search needs
@@ -109,7 +110,7 @@ returns-4 c =
     let a = c .before .before .before .before .before .before .before .args in
     let plan = plan-of (a .plan .now) in
     let region = region-shared plan (a .mode) (c .before .before .before .before .if1 .left) (c .before .before .if2 .left) (c .before .if3 .left) in
-    sym (slot-shared plan (state (a .x) (a .y) (a .mode)) region)
+    sym (slot-shared plan (numbered (a .x) (a .y) (a .mode)) region)
 
 pub slot-spec : {M : Type 1} → statement M
 slot-spec =
