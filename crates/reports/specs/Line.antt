@@ -45,9 +45,16 @@ whole (negsuc n) = bytes "-" ++ digits (suc n)
 abbrev pub named : String → ℕ → List ℕ
 named words n = bytes words ++ digits n
 
--- some words and the four numbers of an entry
+abbrev pub after-space : ℤ → List ℕ
+after-space z = bytes " " ++ whole z
+
+-- the four numbers of an entry
+unfoldable pub numbers : Entry → List ℕ
+numbers x = after-space (x .a) ++ after-space (x .b) ++ after-space (x .c) ++ after-space (x .d)
+
+-- some words and an entry
 abbrev pub named-entry : String → Entry → List ℕ
-named-entry words x = bytes words ++ whole (x .a) ++ bytes " " ++ whole (x .b) ++ bytes " " ++ whole (x .c) ++ bytes " " ++ whole (x .d)
+named-entry words x = bytes words ++ numbers x
 
 -- "`refused 3 list 0 byte 0`, or `refused 13 steps 61`, or `refused 11`"
 unfoldable pub refusal : Refusal → List ℕ
@@ -62,11 +69,11 @@ counts r = named " exponent " (r .exponent) ++ named " steps " (r .steps) ++ nam
 -- "`different row 0 column 1 entry 0 0 0 1 corner 0 0 0 0`"
 unfoldable pub difference : Difference → List ℕ
 difference d =
-    named "different row " (d .row) ++ named " column " (d .column) ++ named-entry " entry " (d .entry) ++ named-entry " corner " (d .corner)
+    named "different row " (d .row) ++ named " column " (d .column) ++ named-entry " entry" (d .entry) ++ named-entry " corner" (d .corner)
 
 -- "`equal factor 0 0 0 1`"
 abbrev pub answer : Verdict → Report → List ℕ
-answer (Equal factor) r = named-entry "equal factor " factor ++ counts r
+answer (Equal factor) r = named-entry "equal factor" factor ++ counts r
 answer (Different d) r = difference d ++ counts r
 answer (Refused why) r = refusal why
 

@@ -7,8 +7,9 @@ use miters::Verdict;
 ghost use mathlib.Core.Path.{_≡_};
 ghost use mathlib.Core.List.{[], _∷_, _++_};
 ghost use Prim.Native.Nat.{_+_, _≤_, _<_};
+ghost use lib.IntN.{natAbs};
 ghost use lib.ListN.{length, drop};
-ghost use Rattle.reports.specs.Line.{digits, whole, refusal, counts, difference, line};
+ghost use Rattle.reports.specs.Line.{digits, after-space, numbers, refusal, counts, difference, answer, line};
 ghost use Rattle.reports.specs.Writing.{Put};
 
 fn put_byte(byte: u8, buffer: &mut [u8; 256], at: usize) -> usize
@@ -42,12 +43,45 @@ fn put_digits(n: usize, buffer: &mut [u8; 256], at: usize) -> usize
     put_byte(48 + (n % 10) as u8, buffer, last)
 }
 
+fn magnitude(z: i32) -> usize
+    ensures { λ r. ⌜ r ≡ natAbs z ⌝ }
+{
+    if z < 0 {
+        (0 - z as i64) as usize
+    } else {
+        z as usize
+    }
+}
+
+fn put_whole(z: i32, buffer: &mut [u8; 256], at: usize) -> usize
+    requires { ⌜ at + length (after-space z) ≤ 256 ⌝ }
+    ensures { λ r. ⌜ Put (after-space z) at (now (buffer .entry)) (now (buffer .exit)) r ⌝ }
+{
+    let next = put_byte(b' ', buffer, at);
+    if z < 0 {
+        let first = put_byte(b'-', buffer, next);
+        return put_digits(magnitude(z), buffer, first);
+    }
+    put_digits(magnitude(z), buffer, next)
+}
+
 fn put_named(words: &[u8], n: u32, buffer: &mut [u8; 256], at: usize) -> usize
     requires { ⌜ at + length (now words ++ digits n) ≤ 256 ⌝ }
     ensures { λ r. ⌜ Put (now (words .entry) ++ digits n) at (now (buffer .entry)) (now (buffer .exit)) r ⌝ }
 {
     let next = put_words(words, buffer, at);
     put_digits(n as usize, buffer, next)
+}
+
+fn put_entry(words: &[u8], x: Entry, buffer: &mut [u8; 256], at: usize) -> usize
+    requires { ⌜ at + length (now words ++ numbers x) ≤ 256 ⌝ }
+    ensures { λ r. ⌜ Put (now (words .entry) ++ numbers x) at (now (buffer .entry)) (now (buffer .exit)) r ⌝ }
+{
+    let a = put_words(words, buffer, at);
+    let b = put_whole(x.a, buffer, a);
+    let c = put_whole(x.b, buffer, b);
+    let d = put_whole(x.c, buffer, c);
+    put_whole(x.d, buffer, d)
 }
 
 fn put_counts(report: Report, buffer: &mut [u8; 256], at: usize) -> usize
@@ -58,4 +92,59 @@ fn put_counts(report: Report, buffer: &mut [u8; 256], at: usize) -> usize
     let nodes = put_named(b" steps ", report.steps, buffer, steps);
     let values = put_named(b" nodes ", report.nodes, buffer, nodes);
     put_named(b" values ", report.values, buffer, values)
+}
+
+fn put_difference(d: Difference, buffer: &mut [u8; 256], at: usize) -> usize
+    requires { ⌜ at + length (difference d) ≤ 256 ⌝ }
+    ensures { λ r. ⌜ Put (difference d) at (now (buffer .entry)) (now (buffer .exit)) r ⌝ }
+{
+    let column = put_named(b"different row ", d.row, buffer, at);
+    let entry = put_named(b" column ", d.column, buffer, column);
+    let corner = put_entry(b" entry", d.entry, buffer, entry);
+    put_entry(b" corner", d.corner, buffer, corner)
+}
+
+fn put_refusal(r: Refusal, buffer: &mut [u8; 256], at: usize) -> usize
+    requires { ⌜ at + length (refusal r) ≤ 256 ⌝ }
+    ensures { λ n. ⌜ Put (refusal r) at (now (buffer .entry)) (now (buffer .exit)) n ⌝ }
+{
+    match r {
+        Refusal::Call { number } => put_named(b"refused ", number, buffer, at),
+        Refusal::Byte { number, list, offset } => {
+            let after = put_named(b"refused ", number, buffer, at);
+            let next = put_named(b" list ", list, buffer, after);
+            let byte = put_words(b" byte ", buffer, next);
+            put_digits(offset, buffer, byte)
+        },
+        Refusal::Step { number, steps } => {
+            let after = put_named(b"refused ", number, buffer, at);
+            put_named(b" steps ", steps, buffer, after)
+        },
+    }
+}
+
+fn put_answer(report: Report, buffer: &mut [u8; 256], at: usize) -> usize
+    requires { ⌜ at + length (answer (report .verdict) report) ≤ 256 ⌝ }
+    ensures { λ r. ⌜ Put (answer (report .verdict) report) at (now (buffer .entry)) (now (buffer .exit)) r ⌝ }
+{
+    let verdict = report.verdict;
+    match verdict {
+        Verdict::Equal(factor) => {
+            let next = put_entry(b"equal factor", factor, buffer, at);
+            put_counts(report, buffer, next)
+        },
+        Verdict::Different(d) => {
+            let next = put_difference(d, buffer, at);
+            put_counts(report, buffer, next)
+        },
+        Verdict::Refused(r) => put_refusal(r, buffer, at),
+    }
+}
+
+pub fn write_line(report: Report, buffer: &mut [u8; 256]) -> usize
+    ensures length { λ r. ⌜ r ≡ length (line report) ⌝ }
+    ensures contents { λ r. ⌜ now (buffer .exit) ≡ line report ++ drop (length (line report)) (now (buffer .entry)) ⌝ }
+{
+    let end = put_answer(report, buffer, 0);
+    put_byte(b'\n', buffer, end)
 }

@@ -1,0 +1,68 @@
+-- `reports::put_whole` meets its contract: a space, the sign of a number below zero, and the digits. Assumes nothing.
+use mathlib.Core.Path.{refl, ap}
+use native.Mathlib.Omega.{arith}
+use borrow.Author.Needs.{needs}
+use lib.ListN.{length}
+use Rattle.reports.proofs.Puts.{put-then}
+use Rattle.reports.proofs.Signs.{text-below, text-above}
+use Rattle.reports.proofs.put_whole.Statement.{statement}
+use Rattle.reports.proofs.put_whole.Tie as tie
+use Rattle.reports.proofs.put_whole.Reads as reads
+use Rattle.reports.proofs.put_whole.Lts as lts
+use Rattle.reports.proofs.magnitude.Reads as magnitude-reads
+use Rattle.reports.proofs.put_byte.Reads as put-byte-reads
+use Rattle.reports.proofs.put_digits.Reads as put-digits-reads
+
+put-byte-requires : tie.Need-put-byte-requires
+put-byte-requires c κs = search needs
+
+-- ---- below zero
+
+put-byte-requires-2 : tie.Need-put-byte-requires-2
+put-byte-requires-2 c κs =
+    let start = c .before .before .before .before in
+    omega (arith, ap length (text-below (start .fits .z) (c .before .if1 .taken) refl))
+
+magnitude-requires : tie.Need-magnitude-requires
+magnitude-requires c κs = search needs
+
+put-digits-requires : tie.Need-put-digits-requires
+put-digits-requires c κs =
+    let test = c .before .before .before .before in
+    omega (arith, ap length (text-below (test .before .before .before .fits .z) (test .if1 .taken) (c .before .magnitude .ensures)))
+
+returns : tie.Need-returns
+returns c =
+    let sign = c .before .before .before in
+    let test = sign .before .before in
+    rw (text-below (test .before .before .before .fits .z) (test .if1 .taken) (c .before .before .magnitude .ensures))
+    (put-then (test .before .put-byte .ensures) (put-then (sign .put-byte2 .ensures) (c .put-digits .ensures)))
+
+-- ---- from zero on
+
+magnitude-requires-2 : tie.Need-magnitude-requires-2
+magnitude-requires-2 c κs = search needs
+
+put-digits-requires-2 : tie.Need-put-digits-requires-2
+put-digits-requires-2 c κs =
+    let test = c .before .before in
+    omega (arith, ap length (text-above (test .before .before .before .fits .z) (test .if1 .left) (c .before .magnitude2 .ensures)))
+
+returns-2 : tie.Need-returns-2
+returns-2 c =
+    let test = c .before .before .before in
+    rw (text-above (test .before .before .before .fits .z) (test .if1 .left) (c .before .before .magnitude2 .ensures))
+    (put-then (test .before .put-byte .ensures) (c .put-digits2 .ensures))
+
+pub put-whole-spec : {M : Type 1} → statement M
+put-whole-spec =
+    tie.close
+    (tie.spec
+    put-byte-requires
+    put-byte-requires-2
+    magnitude-requires
+    put-digits-requires
+    returns
+    magnitude-requires-2
+    put-digits-requires-2
+    returns-2)
