@@ -2,17 +2,20 @@
 use mathlib.Core.Path.{_≡_, refl, sym, ap, _∙_}
 use mathlib.Core.Bool.{Bool, true, false, true≢false}
 use mathlib.Core.List.{_++_}
-use Prim.Native.Nat.{ℕ, suc, _^_, _<_}
+use Prim.Native.Nat.{ℕ, suc, _^_, _≤_, _<_}
 use native.Mathlib.Omega.{arith}
 use borrow.Author.Tests.{ltb-true}
 use lib.Dec.{T, lit<}
 use lib.IntN.{ℤ, pos, negsuc, natAbs, _-ℤ_, +ℤ-idl}
+use lib.ListN.{length}
 use lib.Signed.{mag, ltZ, nonNeg}
 use mir.Facts.{toZ-ofZ}
 use mir.Syntax.{w32, w64}
 use mir.Val.{Fits, SFits, toZ, ofZ}
+use Rattle.algebra.specs.declared.Entry.{Entry}
 use Rattle.algebra.proofs.Widths.{as64, op-fits, op-is, sub-widening}
-use Rattle.reports.specs.Line.{bytes, digits, whole}
+use Rattle.reports.specs.Line.{bytes, digits, whole, numbers}
+use Rattle.reports.proofs.Decimals.{length-digits-32}
 
 -- an `i32` as a local holds it
 abbrev held : ℤ → ℤ
@@ -20,7 +23,7 @@ held z = toZ w32 (ofZ w32 z)
 
 -- ---- the magnitude
 
-natAbs-bound : (z : ℤ) → mag z < 2 ^ 31 → natAbs z < 2 ^ 64
+natAbs-bound : (z : ℤ) → mag z < 2 ^ 31 → natAbs z < 2 ^ 32
 natAbs-bound (pos n) h = omega arith
 natAbs-bound (negsuc n) h = omega arith
 
@@ -55,7 +58,10 @@ module _ {z : ℤ} (fits : SFits w32 z) where
 
   -- the cast of a number that is the magnitude
   pub magnitude-cast : {v : ℤ} → v ≡ pos (natAbs z) → T (nonNeg v) × Fits w64 (natAbs v)
-  magnitude-cast is = rw is (tt, record { fits = natAbs-bound z (fits .sfits) })
+  magnitude-cast is = rw is (tt, record { fits = omega (arith, natAbs-bound z (fits .sfits)) })
+
+  pub magnitude-short : {m : ℕ} → m ≡ natAbs (held z) → length (digits m) ≤ 10
+  magnitude-short {m} is = length-digits-32 m (rw (is ∙ ap natAbs (toZ-ofZ fits)) (natAbs-bound z (fits .sfits)))
 
   pub opposite-fits : SFits w64 (pos 0 -ℤ as64 z)
   opposite-fits = op-fits _-ℤ_ sub-widening zero-fits fits
@@ -73,3 +79,15 @@ module _ {z : ℤ} (fits : SFits w32 z) where
 
     pub text-above : {m : ℕ} → m ≡ natAbs (held z) → whole z ≡ digits m
     text-above is = whole-above z (test-is above) ∙ ap digits (sym (is ∙ ap natAbs (toZ-ofZ fits)))
+
+-- ---- an entry's
+
+abbrev held-entry : Entry → Entry
+held-entry x = record { a = held (x .a); b = held (x .b); c = held (x .c); d = held (x .d) }
+
+held-is : (z : ℤ) → mag z < 2 ^ 31 → z ≡ held z
+held-is z h = sym (toZ-ofZ (record { sfits = h }))
+
+pub numbers-held : (x : Entry) → mag (x .a) < 2 ^ 31 → mag (x .b) < 2 ^ 31 → mag (x .c) < 2 ^ 31 → mag (x .d) < 2 ^ 31 →
+    numbers x ≡ numbers (held-entry x)
+numbers-held x a b c d = ap numbers (λ i. record { a = held-is (x .a) a i; b = held-is (x .b) b i; c = held-is (x .c) c i; d = held-is (x .d) d i })

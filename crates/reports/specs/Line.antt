@@ -56,10 +56,14 @@ numbers x = after-space (x .a) ++ after-space (x .b) ++ after-space (x .c) ++ af
 abbrev pub named-entry : String → Entry → List ℕ
 named-entry words x = bytes words ++ numbers x
 
+-- "`list 0 byte 0`"
+unfoldable pub place : ℕ → ℕ → List ℕ
+place list offset = named " list " list ++ named " byte " offset
+
 -- "`refused 3 list 0 byte 0`, or `refused 13 steps 61`, or `refused 11`"
 unfoldable pub refusal : Refusal → List ℕ
 refusal (Call number) = named "refused " number
-refusal (Byte number list offset) = named "refused " number ++ named " list " list ++ named " byte " offset
+refusal (Byte number list offset) = named "refused " number ++ place list offset
 refusal (Step number steps) = named "refused " number ++ named " steps " steps
 
 -- "`exponent 0 steps 0 nodes 3 values 2`"
@@ -80,3 +84,11 @@ answer (Refused why) r = refusal why
 -- "Output is one line, ended by a line feed"
 unfoldable pub line : Report → List ℕ
 line r = answer (r .verdict) r ++ bytes "\n"
+
+-- ---- the buffer
+
+-- a text in the first bytes of a buffer, which keeps the rest
+abbrev pub over-front : List ℕ → List ℕ → List ℕ
+over-front [] buffer = buffer
+over-front (x ∷ text) [] = []
+over-front (x ∷ text) (y ∷ buffer) = x ∷ over-front text buffer

@@ -8,21 +8,24 @@ ghost use mathlib.Core.Path.{_≡_};
 ghost use mathlib.Core.List.{[], _∷_, _++_};
 ghost use Prim.Native.Nat.{_+_, _≤_, _<_};
 ghost use lib.IntN.{natAbs};
-ghost use lib.ListN.{length, drop};
-ghost use Rattle.reports.specs.Line.{digits, after-space, numbers, refusal, counts, difference, answer, line};
-ghost use Rattle.reports.specs.Writing.{Put};
+ghost use lib.ListN.{length};
+ghost use Rattle.reports.specs.Line.{digits, after-space, numbers, place, refusal, counts, difference, answer, line, over-front};
+ghost use Rattle.reports.specs.Writing.{room, Put};
 
-fn put_byte(byte: u8, buffer: &mut [u8; 256], at: usize) -> usize
-    requires { ⌜ at < 256 ⌝ }
-    ensures { λ r. ⌜ Put (byte ∷ []) at (now (buffer .entry)) (now (buffer .exit)) r ⌝ }
+// The bytes of a buffer, which every line fits.
+pub const ROOM: usize = 256;
+
+fn put_byte(byte: u8, buffer: &mut [u8; ROOM], at: usize) -> usize
+    requires { ⌜ at < room ⌝ }
+    ensures { λ r. ⌜ Put (byte ∷ []) 1 at (now (buffer .entry)) (now (buffer .exit)) r ⌝ }
 {
     buffer[at] = byte;
     at + 1
 }
 
-fn put_words(words: &[u8], buffer: &mut [u8; 256], at: usize) -> usize
-    requires { ⌜ at + length (now words) ≤ 256 ⌝ }
-    ensures { λ r. ⌜ Put (now (words .entry)) at (now (buffer .entry)) (now (buffer .exit)) r ⌝ }
+fn put_words(words: &[u8], buffer: &mut [u8; ROOM], at: usize) -> usize
+    requires { ⌜ at + length (now words) ≤ room ⌝ }
+    ensures { λ r. ⌜ Put (now (words .entry)) (length (now (words .entry))) at (now (buffer .entry)) (now (buffer .exit)) r ⌝ }
 {
     let mut i = 0;
     while i < words.len() {
@@ -32,9 +35,9 @@ fn put_words(words: &[u8], buffer: &mut [u8; 256], at: usize) -> usize
     at + i
 }
 
-fn put_digits(n: usize, buffer: &mut [u8; 256], at: usize) -> usize
-    requires { ⌜ at + length (digits n) ≤ 256 ⌝ }
-    ensures { λ r. ⌜ Put (digits n) at (now (buffer .entry)) (now (buffer .exit)) r ⌝ }
+fn put_digits(n: usize, buffer: &mut [u8; ROOM], at: usize) -> usize
+    requires { ⌜ at + length (digits n) ≤ room ⌝ }
+    ensures { λ r. ⌜ Put (digits n) (length (digits n)) at (now (buffer .entry)) (now (buffer .exit)) r ⌝ }
 {
     if n < 10 {
         return put_byte(48 + n as u8, buffer, at);
@@ -53,9 +56,10 @@ fn magnitude(z: i32) -> usize
     }
 }
 
-fn put_whole(z: i32, buffer: &mut [u8; 256], at: usize) -> usize
-    requires { ⌜ at + length (after-space z) ≤ 256 ⌝ }
-    ensures { λ r. ⌜ Put (after-space z) at (now (buffer .entry)) (now (buffer .exit)) r ⌝ }
+// A space and the number, with its sign if it is below zero.
+fn put_whole(z: i32, buffer: &mut [u8; ROOM], at: usize) -> usize
+    requires { ⌜ at + 12 ≤ room ⌝ }
+    ensures { λ r. ⌜ Put (after-space z) 12 at (now (buffer .entry)) (now (buffer .exit)) r ⌝ }
 {
     let next = put_byte(b' ', buffer, at);
     if z < 0 {
@@ -65,17 +69,17 @@ fn put_whole(z: i32, buffer: &mut [u8; 256], at: usize) -> usize
     put_digits(magnitude(z), buffer, next)
 }
 
-fn put_named(words: &[u8], n: u32, buffer: &mut [u8; 256], at: usize) -> usize
-    requires { ⌜ at + length (now words ++ digits n) ≤ 256 ⌝ }
-    ensures { λ r. ⌜ Put (now (words .entry) ++ digits n) at (now (buffer .entry)) (now (buffer .exit)) r ⌝ }
+fn put_named(words: &[u8], n: u32, buffer: &mut [u8; ROOM], at: usize) -> usize
+    requires { ⌜ at + (length (now words) + 10) ≤ room ⌝ }
+    ensures { λ r. ⌜ Put (now (words .entry) ++ digits n) (length (now (words .entry)) + 10) at (now (buffer .entry)) (now (buffer .exit)) r ⌝ }
 {
     let next = put_words(words, buffer, at);
     put_digits(n as usize, buffer, next)
 }
 
-fn put_entry(words: &[u8], x: Entry, buffer: &mut [u8; 256], at: usize) -> usize
-    requires { ⌜ at + length (now words ++ numbers x) ≤ 256 ⌝ }
-    ensures { λ r. ⌜ Put (now (words .entry) ++ numbers x) at (now (buffer .entry)) (now (buffer .exit)) r ⌝ }
+fn put_entry(words: &[u8], x: Entry, buffer: &mut [u8; ROOM], at: usize) -> usize
+    requires { ⌜ at + (length (now words) + 48) ≤ room ⌝ }
+    ensures { λ r. ⌜ Put (now (words .entry) ++ numbers x) (length (now (words .entry)) + 48) at (now (buffer .entry)) (now (buffer .exit)) r ⌝ }
 {
     let a = put_words(words, buffer, at);
     let b = put_whole(x.a, buffer, a);
@@ -84,9 +88,9 @@ fn put_entry(words: &[u8], x: Entry, buffer: &mut [u8; 256], at: usize) -> usize
     put_whole(x.d, buffer, d)
 }
 
-fn put_counts(report: Report, buffer: &mut [u8; 256], at: usize) -> usize
-    requires { ⌜ at + length (counts report) ≤ 256 ⌝ }
-    ensures { λ r. ⌜ Put (counts report) at (now (buffer .entry)) (now (buffer .exit)) r ⌝ }
+fn put_counts(report: Report, buffer: &mut [u8; ROOM], at: usize) -> usize
+    requires { ⌜ at + 72 ≤ room ⌝ }
+    ensures { λ r. ⌜ Put (counts report) 72 at (now (buffer .entry)) (now (buffer .exit)) r ⌝ }
 {
     let steps = put_named(b" exponent ", report.exponent, buffer, at);
     let nodes = put_named(b" steps ", report.steps, buffer, steps);
@@ -94,9 +98,9 @@ fn put_counts(report: Report, buffer: &mut [u8; 256], at: usize) -> usize
     put_named(b" values ", report.values, buffer, values)
 }
 
-fn put_difference(d: Difference, buffer: &mut [u8; 256], at: usize) -> usize
-    requires { ⌜ at + length (difference d) ≤ 256 ⌝ }
-    ensures { λ r. ⌜ Put (difference d) at (now (buffer .entry)) (now (buffer .exit)) r ⌝ }
+fn put_difference(d: Difference, buffer: &mut [u8; ROOM], at: usize) -> usize
+    requires { ⌜ at + 151 ≤ room ⌝ }
+    ensures { λ r. ⌜ Put (difference d) 151 at (now (buffer .entry)) (now (buffer .exit)) r ⌝ }
 {
     let column = put_named(b"different row ", d.row, buffer, at);
     let entry = put_named(b" column ", d.column, buffer, column);
@@ -104,28 +108,39 @@ fn put_difference(d: Difference, buffer: &mut [u8; 256], at: usize) -> usize
     put_entry(b" corner", d.corner, buffer, corner)
 }
 
-fn put_refusal(r: Refusal, buffer: &mut [u8; 256], at: usize) -> usize
-    requires { ⌜ at + length (refusal r) ≤ 256 ⌝ }
-    ensures { λ n. ⌜ Put (refusal r) at (now (buffer .entry)) (now (buffer .exit)) n ⌝ }
+fn put_place(list: u32, offset: usize, buffer: &mut [u8; ROOM], at: usize) -> usize
+    requires { ⌜ at + 42 ≤ room ⌝ }
+    ensures { λ r. ⌜ Put (place list offset) 42 at (now (buffer .entry)) (now (buffer .exit)) r ⌝ }
 {
-    match r {
+    let next = put_named(b" list ", list, buffer, at);
+    let first = put_words(b" byte ", buffer, next);
+    put_digits(offset, buffer, first)
+}
+
+fn put_refusal(why: Refusal, buffer: &mut [u8; ROOM], at: usize) -> usize
+    requires { ⌜ at + 60 ≤ room ⌝ }
+    ensures { λ r. ⌜ Put (refusal why) 60 at (now (buffer .entry)) (now (buffer .exit)) r ⌝ }
+{
+    match why {
         Refusal::Call { number } => put_named(b"refused ", number, buffer, at),
-        Refusal::Byte { number, list, offset } => {
-            let after = put_named(b"refused ", number, buffer, at);
-            let next = put_named(b" list ", list, buffer, after);
-            let byte = put_words(b" byte ", buffer, next);
-            put_digits(offset, buffer, byte)
+        Refusal::Byte {
+            number,
+            list,
+            offset,
+        } => {
+            let next = put_named(b"refused ", number, buffer, at);
+            put_place(list, offset, buffer, next)
         },
         Refusal::Step { number, steps } => {
-            let after = put_named(b"refused ", number, buffer, at);
-            put_named(b" steps ", steps, buffer, after)
+            let next = put_named(b"refused ", number, buffer, at);
+            put_named(b" steps ", steps, buffer, next)
         },
     }
 }
 
-fn put_answer(report: Report, buffer: &mut [u8; 256], at: usize) -> usize
-    requires { ⌜ at + length (answer (report .verdict) report) ≤ 256 ⌝ }
-    ensures { λ r. ⌜ Put (answer (report .verdict) report) at (now (buffer .entry)) (now (buffer .exit)) r ⌝ }
+fn put_answer(report: Report, buffer: &mut [u8; ROOM], at: usize) -> usize
+    requires { ⌜ at + 223 ≤ room ⌝ }
+    ensures { λ r. ⌜ Put (answer (report .verdict) report) 223 at (now (buffer .entry)) (now (buffer .exit)) r ⌝ }
 {
     let verdict = report.verdict;
     match verdict {
@@ -137,13 +152,15 @@ fn put_answer(report: Report, buffer: &mut [u8; 256], at: usize) -> usize
             let next = put_difference(d, buffer, at);
             put_counts(report, buffer, next)
         },
-        Verdict::Refused(r) => put_refusal(r, buffer, at),
+        Verdict::Refused(why) => put_refusal(why, buffer, at),
     }
 }
 
-pub fn write_line(report: Report, buffer: &mut [u8; 256]) -> usize
+// The line, written to the front of the buffer; its length is returned.
+pub fn write_line(report: Report, buffer: &mut [u8; ROOM]) -> usize
     ensures length { λ r. ⌜ r ≡ length (line report) ⌝ }
-    ensures contents { λ r. ⌜ now (buffer .exit) ≡ line report ++ drop (length (line report)) (now (buffer .entry)) ⌝ }
+    ensures short { λ r. ⌜ r ≤ 224 ⌝ }
+    ensures contents { λ _. ⌜ now (buffer .exit) ≡ over-front (line report) (now (buffer .entry)) ⌝ }
 {
     let end = put_answer(report, buffer, 0);
     put_byte(b'\n', buffer, end)

@@ -2,7 +2,7 @@
 -- The measure is the number. Assumes nothing.
 use mathlib.Core.Path.{ap}
 use Prim.Native.Nat.{ℕ, _<_}
-use lib.ListN.{length}
+use lib.ListN.{length, length-append}
 use native.Mathlib.Omega.{arith}
 use borrow.Fn.Kinds.{In}
 use borrow.Fn.PlainCycle.{Measures, is, falls, and}
@@ -45,4 +45,5 @@ pub +put-digits-spec : {M : Type 1} → statement M
     (λ c. omega arith)
     (λ c. omega arith)
     (λ c κs. omega (arith, length-digits-long _ (c .before .before .before .if1 .left)))
-    (λ c. rw (digits-long _ (c .before .before .before .before .if1 .left)) (put-then (c .before .before .put-digits .ensures) (c .put-byte2 .ensures)))
+    (λ c. rw (digits-long _ (c .before .before .before .before .if1 .left), length-append)
+    (put-then (c .before .before .put-digits .ensures) (c .put-byte2 .ensures)))

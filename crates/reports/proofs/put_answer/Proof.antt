@@ -1,60 +1,59 @@
+-- `reports::put_answer` meets its contract: what the verdict shows, and the counts of a run that finished. Assumes nothing.
+use mathlib.Core.Path.{ap}
 use borrow.Author.Needs.{needs}
+use lib.Dec.{lit≤}
+use Rattle.miters.specs.declared.Verdict.{Verdict}
+use Rattle.reports.specs.Line.{answer}
+use Rattle.reports.proofs.Puts.{put-then, put-as, put-within}
 use Rattle.reports.proofs.put_answer.Statement.{statement}
 use Rattle.reports.proofs.put_answer.Tie as tie
-use Rattle.reports.proofs.put_answer.Reads as reads
-use Rattle.reports.proofs.put_answer.Lts as lts
-use Rattle.reports.proofs.put_counts.Reads as put-counts-reads
-use Rattle.reports.proofs.put_difference.Reads as put-difference-reads
-use Rattle.reports.proofs.put_entry.Reads as put-entry-reads
-use Rattle.reports.proofs.put_refusal.Reads as put-refusal-reads
 
--- src/lib.rt:132:24
 enum-known-verdict : tie.Need-enum-known-verdict
 enum-known-verdict c = search needs
 
--- src/lib.rt:133:34
 slice-aggregate-put-entry : tie.Need-slice-aggregate-put-entry
 slice-aggregate-put-entry c = search needs
 
--- src/lib.rt:133:17
 put-entry-requires : tie.Need-put-entry-requires
-put-entry-requires c κs = ?
+put-entry-requires c κs = search needs
 
--- src/lib.rt:134:13
 put-counts-requires : tie.Need-put-counts-requires
-put-counts-requires c κs = ?
+put-counts-requires c κs = search needs
 
--- src/lib.rt:136:28
 enum-known-verdict-2 : tie.Need-enum-known-verdict-2
 enum-known-verdict-2 c = search needs
 
--- src/lib.rt:137:17
 put-difference-requires : tie.Need-put-difference-requires
-put-difference-requires c κs = ?
+put-difference-requires c κs = search needs
 
--- src/lib.rt:138:13
 put-counts-requires-2 : tie.Need-put-counts-requires-2
-put-counts-requires-2 c κs = ?
+put-counts-requires-2 c κs = search needs
 
--- src/lib.rt:140:26
 enum-known-verdict-3 : tie.Need-enum-known-verdict-3
 enum-known-verdict-3 c = search needs
 
--- src/lib.rt:140:32
 put-refusal-requires : tie.Need-put-refusal-requires
-put-refusal-requires c κs = ?
+put-refusal-requires c κs = search needs
 
--- src/lib.rt:126:1
 returns : tie.Need-returns
-returns c = ?
+returns c =
+    let entry = c .before .before in
+    let arm = entry .before .before .before .before in
+    put-as (ap (λ (v : Verdict). answer v (arm .before .before .args .report)) (arm .verdict .given .1))
+    (put-within (lit≤ tt) (put-then (entry .put-entry .ensures) (c .put-counts .ensures)))
 
--- src/lib.rt:126:1
 returns-2 : tie.Need-returns-2
-returns-2 c = ?
+returns-2 c =
+    let difference = c .before .before in
+    let arm = difference .before .before .before in
+    put-as (ap (λ (v : Verdict). answer v (arm .before .before .args .report)) (arm .verdict2 .given .1))
+    (put-then (difference .put-difference .ensures) (c .put-counts2 .ensures))
 
--- src/lib.rt:126:1
 returns-3 : tie.Need-returns-3
-returns-3 c = ?
+returns-3 c =
+    let arm = c .before .before .before in
+    put-as (ap (λ (v : Verdict). answer v (arm .before .before .args .report)) (arm .verdict3 .given .1))
+    (put-within (lit≤ tt) (c .put-refusal .ensures))
 
 pub put-answer-spec : {M : Type 1} → statement M
 put-answer-spec =

@@ -1,7 +1,6 @@
 -- `reports::put_counts` meets its contract: the four counts in turn. Assumes nothing.
 use native.Mathlib.Omega.{arith}
 use borrow.Author.Needs.{needs}
-use lib.ListN.{length-append}
 use Rattle.reports.specs.Line.{counts}
 use Rattle.reports.proofs.Puts.{put-then}
 use Rattle.reports.proofs.put_counts.Statement.{statement}
@@ -14,29 +13,25 @@ slice-aggregate-put-named : tie.Need-slice-aggregate-put-named
 slice-aggregate-put-named c = search needs
 
 put-named-requires : tie.Need-put-named-requires
-unfolding counts
-put-named-requires c κs = omega (arith, simp length-append at (c .before .before .pre))
+put-named-requires c κs = omega arith
 
 slice-aggregate-put-named-2 : tie.Need-slice-aggregate-put-named-2
 slice-aggregate-put-named-2 c = search needs
 
 put-named-requires-2 : tie.Need-put-named-requires-2
-unfolding counts
-put-named-requires-2 c κs = omega (arith, simp length-append at (c .before .before .before .before .before .pre))
+put-named-requires-2 c κs = omega arith
 
 slice-aggregate-put-named-3 : tie.Need-slice-aggregate-put-named-3
 slice-aggregate-put-named-3 c = search needs
 
 put-named-requires-3 : tie.Need-put-named-requires-3
-unfolding counts
-put-named-requires-3 c κs = omega (arith, simp length-append at (c .before .before .before .before .before .before .before .before .pre))
+put-named-requires-3 c κs = omega arith
 
 slice-aggregate-put-named-4 : tie.Need-slice-aggregate-put-named-4
 slice-aggregate-put-named-4 c = search needs
 
 put-named-requires-4 : tie.Need-put-named-requires-4
-unfolding counts
-put-named-requires-4 c κs = omega (arith, simp length-append at (c .before .before .before .before .before .before .before .before .before .before .before .pre))
+put-named-requires-4 c κs = omega arith
 
 returns : tie.Need-returns
 unfolding counts

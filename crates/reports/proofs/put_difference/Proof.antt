@@ -1,46 +1,42 @@
+-- `reports::put_difference` meets its contract: row, column, entry and corner in turn. Assumes nothing.
+use native.Mathlib.Omega.{arith}
 use borrow.Author.Needs.{needs}
+use Rattle.reports.specs.Line.{difference}
+use Rattle.reports.proofs.Puts.{put-then}
 use Rattle.reports.proofs.put_difference.Statement.{statement}
 use Rattle.reports.proofs.put_difference.Tie as tie
-use Rattle.reports.proofs.put_difference.Reads as reads
-use Rattle.reports.proofs.put_difference.Lts as lts
-use Rattle.reports.proofs.put_entry.Reads as put-entry-reads
-use Rattle.reports.proofs.put_named.Reads as put-named-reads
 
--- src/lib.rt:101:28
 slice-aggregate-put-named : tie.Need-slice-aggregate-put-named
 slice-aggregate-put-named c = search needs
 
--- src/lib.rt:101:9
 put-named-requires : tie.Need-put-named-requires
-put-named-requires c κs = ?
+put-named-requires c κs = omega arith
 
--- src/lib.rt:102:27
 slice-aggregate-put-named-2 : tie.Need-slice-aggregate-put-named-2
 slice-aggregate-put-named-2 c = search needs
 
--- src/lib.rt:102:9
 put-named-requires-2 : tie.Need-put-named-requires-2
-put-named-requires-2 c κs = ?
+put-named-requires-2 c κs = omega arith
 
--- src/lib.rt:103:28
 slice-aggregate-put-entry : tie.Need-slice-aggregate-put-entry
 slice-aggregate-put-entry c = search needs
 
--- src/lib.rt:103:9
 put-entry-requires : tie.Need-put-entry-requires
-put-entry-requires c κs = ?
+put-entry-requires c κs = omega arith
 
--- src/lib.rt:104:15
 slice-aggregate-put-entry-2 : tie.Need-slice-aggregate-put-entry-2
 slice-aggregate-put-entry-2 c = search needs
 
--- src/lib.rt:104:5
 put-entry-requires-2 : tie.Need-put-entry-requires-2
-put-entry-requires-2 c κs = ?
+put-entry-requires-2 c κs = omega arith
 
--- src/lib.rt:97:1
 returns : tie.Need-returns
-returns c = ?
+unfolding difference
+returns c =
+    let entry = c .before .before .before in
+    let column = entry .before .before .before in
+    let row = column .before .before .before in
+    put-then (put-then (put-then (row .put-named .ensures) (column .put-named2 .ensures)) (entry .put-entry .ensures)) (c .put-entry2 .ensures)
 
 pub put-difference-spec : {M : Type 1} → statement M
 put-difference-spec =

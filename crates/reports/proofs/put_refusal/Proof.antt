@@ -1,108 +1,83 @@
+-- `reports::put_refusal` meets its contract: the number, and then what the refusal returns with it. Assumes nothing.
 use borrow.Author.Needs.{needs}
+use lib.Dec.{lit≤}
+use Rattle.reports.specs.Line.{refusal}
+use Rattle.reports.proofs.Puts.{put-then, put-within}
 use Rattle.reports.proofs.put_refusal.Statement.{statement}
 use Rattle.reports.proofs.put_refusal.Tie as tie
-use Rattle.reports.proofs.put_refusal.Reads as reads
-use Rattle.reports.proofs.put_refusal.Lts as lts
-use Rattle.reports.proofs.put_digits.Reads as put-digits-reads
-use Rattle.reports.proofs.put_named.Reads as put-named-reads
-use Rattle.reports.proofs.put_words.Reads as put-words-reads
 
--- src/lib.rt:112:25
-enum-known-r : tie.Need-enum-known-r
-enum-known-r c = search needs
+enum-known-why : tie.Need-enum-known-why
+enum-known-why c = search needs
 
--- src/lib.rt:112:47
 slice-aggregate-put-named : tie.Need-slice-aggregate-put-named
 slice-aggregate-put-named c = search needs
 
--- src/lib.rt:112:37
 put-named-requires : tie.Need-put-named-requires
-put-named-requires c κs = ?
+put-named-requires c κs = search needs
 
--- src/lib.rt:113:25
-enum-known-r-2 : tie.Need-enum-known-r-2
-enum-known-r-2 c = search needs
+enum-known-why-2 : tie.Need-enum-known-why-2
+enum-known-why-2 c = search needs
 
--- src/lib.rt:114:35
 slice-aggregate-put-named-2 : tie.Need-slice-aggregate-put-named-2
 slice-aggregate-put-named-2 c = search needs
 
--- src/lib.rt:114:17
 put-named-requires-2 : tie.Need-put-named-requires-2
-put-named-requires-2 c κs = ?
+put-named-requires-2 c κs = search needs
 
--- src/lib.rt:115:34
+put-place-requires : tie.Need-put-place-requires
+put-place-requires c κs = search needs
+
+enum-known-why-3 : tie.Need-enum-known-why-3
+enum-known-why-3 c = search needs
+
 slice-aggregate-put-named-3 : tie.Need-slice-aggregate-put-named-3
 slice-aggregate-put-named-3 c = search needs
 
--- src/lib.rt:115:17
 put-named-requires-3 : tie.Need-put-named-requires-3
-put-named-requires-3 c κs = ?
+put-named-requires-3 c κs = search needs
 
--- src/lib.rt:116:34
-slice-aggregate-put-words : tie.Need-slice-aggregate-put-words
-slice-aggregate-put-words c = search needs
-
--- src/lib.rt:116:17
-put-words-requires : tie.Need-put-words-requires
-put-words-requires c κs = ?
-
--- src/lib.rt:117:13
-put-digits-requires : tie.Need-put-digits-requires
-put-digits-requires c κs = ?
-
--- src/lib.rt:119:25
-enum-known-r-3 : tie.Need-enum-known-r-3
-enum-known-r-3 c = search needs
-
--- src/lib.rt:120:35
 slice-aggregate-put-named-4 : tie.Need-slice-aggregate-put-named-4
 slice-aggregate-put-named-4 c = search needs
 
--- src/lib.rt:120:17
 put-named-requires-4 : tie.Need-put-named-requires-4
-put-named-requires-4 c κs = ?
+put-named-requires-4 c κs = search needs
 
--- src/lib.rt:121:23
-slice-aggregate-put-named-5 : tie.Need-slice-aggregate-put-named-5
-slice-aggregate-put-named-5 c = search needs
-
--- src/lib.rt:121:13
-put-named-requires-5 : tie.Need-put-named-requires-5
-put-named-requires-5 c κs = ?
-
--- src/lib.rt:107:1
 returns : tie.Need-returns
-returns c = ?
+unfolding refusal
+returns c =
+    let arm = c .before .before .before .before in
+    rw (arm .why .given .1) (put-within (lit≤ tt) (c .put-named .ensures))
 
--- src/lib.rt:107:1
 returns-2 : tie.Need-returns-2
-returns-2 c = ?
+unfolding refusal
+returns-2 c =
+    let number = c .before .before in
+    let arm = number .before .before .before .before in
+    rw (arm .why2 .given .1) (put-then (number .put-named2 .ensures) (c .put-place .ensures))
 
--- src/lib.rt:107:1
 returns-3 : tie.Need-returns-3
-returns-3 c = ?
+unfolding refusal
+returns-3 c =
+    let number = c .before .before .before in
+    let arm = number .before .before .before .before in
+    rw (arm .why3 .given .1) (put-within (lit≤ tt) (put-then (number .put-named3 .ensures) (c .put-named4 .ensures)))
 
 pub put-refusal-spec : {M : Type 1} → statement M
 put-refusal-spec =
     tie.close
     (tie.spec
-    enum-known-r
+    enum-known-why
     slice-aggregate-put-named
     put-named-requires
-    enum-known-r-2
+    enum-known-why-2
     slice-aggregate-put-named-2
     put-named-requires-2
+    put-place-requires
+    enum-known-why-3
     slice-aggregate-put-named-3
     put-named-requires-3
-    slice-aggregate-put-words
-    put-words-requires
-    put-digits-requires
-    enum-known-r-3
     slice-aggregate-put-named-4
     put-named-requires-4
-    slice-aggregate-put-named-5
-    put-named-requires-5
     returns
     returns-2
     returns-3)
