@@ -22,10 +22,10 @@ put-then {s} {t} {before} {between} {after} {m} {n} {at} {next} {last} p q = rec
   place = rw length-append (omega (arith, p .place, q .place));
   short = rw length-append (omega (arith, p .short, q .short));
   stored =
-    after ≡⟨ q .stored ⟩
-    sets between next t ≡⟨ ap₂ (λ (l : List ℕ) (k : ℕ). sets l k t) (p .stored) (p .place) ⟩
-    sets (sets before at s) (at + length s) t ≡⟨ sym (sets-append before at s t) ⟩
-    sets before at (s ++ t) ∎;
+      after ≡⟨ q .stored ⟩
+      sets between next t ≡⟨ ap₂ (λ (l : List ℕ) (k : ℕ). sets l k t) (p .stored) (p .place) ⟩
+      sets (sets before at s) (at + length s) t ≡⟨ sym (sets-append before at s t) ⟩
+      sets before at (s ++ t) ∎;
 }
 
 pub put-as : {s t before after : List ℕ} {n at next : ℕ} → s ≡ t → Put t n at before after next → Put s n at before after next

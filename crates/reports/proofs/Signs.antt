@@ -1,12 +1,12 @@
--- Whole numbers by their sign: what the code's locals hold of one, and its text. Assumes nothing.
+-- Whole numbers by their sign: the text of one says that number, and what the code's locals hold of one. Assumes nothing.
 use mathlib.Core.Path.{_≡_, refl, sym, ap, _∙_}
-use mathlib.Core.Bool.{Bool, true, false, true≢false}
-use mathlib.Core.List.{_++_}
+use mathlib.Core.Bool.{Bool, true, false, cond, true≢false}
+use mathlib.Core.List.{List, [], _∷_, _++_}
 use Prim.Native.Nat.{ℕ, suc, _^_, _≤_, _<_}
 use native.Mathlib.Omega.{arith}
-use borrow.Author.Tests.{ltb-true}
-use lib.Dec.{T, lit<}
-use lib.IntN.{ℤ, pos, negsuc, natAbs, _-ℤ_, +ℤ-idl}
+use borrow.Author.Tests.{ltb-true, ne-eqb}
+use lib.Dec.{T, eqb, lit<}
+use lib.IntN.{ℤ, pos, negsuc, negℤ, natAbs, _-ℤ_, +ℤ-idl}
 use lib.ListN.{length}
 use lib.Signed.{mag, ltZ, nonNeg}
 use mir.Facts.{toZ-ofZ}
@@ -15,7 +15,7 @@ use mir.Val.{Fits, SFits, toZ, ofZ}
 use Rattle.algebra.specs.declared.Entry.{Entry}
 use Rattle.algebra.proofs.Widths.{as64, op-fits, op-is, sub-widening}
 use Rattle.reports.specs.Line.{bytes, digits, whole, numbers}
-use Rattle.reports.proofs.Decimals.{length-digits-32}
+use Rattle.reports.proofs.Decimals.{Decimal, none, more, digits-decimal, value, value-digits, length-digits-32}
 
 -- an `i32` as a local holds it
 abbrev held : ℤ → ℤ
@@ -46,6 +46,21 @@ whole-above : (z : ℤ) → ltZ z (pos 0) ≡ false → whole z ≡ digits (natA
 unfolding whole
 whole-above (pos n) above = refl
 whole-above (negsuc n) above = absurd (true≢false above)
+
+-- ---- the number that a text says
+
+abbrev pub whole-value : List ℕ → ℤ
+whole-value [] = pos 0
+whole-value (x ∷ s) = cond (eqb x 45) (negℤ (pos (value s))) (pos (value (x ∷ s)))
+
+unsigned : {s : List ℕ} → Decimal s → whole-value s ≡ pos (value s)
+unsigned none = refl
+unsigned (more {d} {s} low high p) = ap (λ (b : Bool). cond b (negℤ (pos (value s))) (pos (value (d ∷ s)))) (ne-eqb d 45 (λ is. omega arith))
+
+pub whole-value-is : (z : ℤ) → whole-value (whole z) ≡ z
+unfolding whole
+whole-value-is (pos n) = unsigned (digits-decimal n) ∙ ap pos (value-digits n)
+whole-value-is (negsuc n) = ap (λ (m : ℕ). negℤ (pos m)) (value-digits (suc n))
 
 -- ---- a local's
 
