@@ -114,7 +114,7 @@ digits-leading =
 
 -- ---- how many digits there are
 
-length-digits : (n k : ℕ) → n < 10 ^ suc k → length (digits n) ≤ suc k
+pub length-digits : (n k : ℕ) → n < 10 ^ suc k → length (digits n) ≤ suc k
 length-digits n =
     digits-induction (λ n s. (k : ℕ) → n < 10 ^ suc k → length s ≤ suc k) (λ n h k below. omega arith) long n
   where

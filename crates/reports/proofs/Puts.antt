@@ -1,4 +1,5 @@
--- Texts written one after another: what stands in the buffer is what writing them joined leaves. Assumes nothing.
+-- Texts written into a buffer: one after another is the two joined; what is written from the front on; byte by byte.
+-- Assumes nothing.
 use mathlib.Core.Path.{_≡_, refl, sym, ap, ap₂, _∙_, _≡⟨_⟩_, _∎}
 use mathlib.Core.List.{List, [], _∷_, _++_}
 use Prim.Native.Nat.{ℕ, suc, _+_, _≤_, _<_}
@@ -10,7 +11,9 @@ use lib.Seq.{sets, take-suc, take-all, length-take-le}
 use Rattle.reports.specs.Line.{over-front}
 use Rattle.reports.specs.Writing.{Put}
 
-pub sets-append : (l : List ℕ) (at : ℕ) (s t : List ℕ) → sets l at (s ++ t) ≡ sets (sets l at s) (at + length s) t
+-- ---- one text after another
+
+sets-append : (l : List ℕ) (at : ℕ) (s t : List ℕ) → sets l at (s ++ t) ≡ sets (sets l at s) (at + length s) t
 sets-append l at [] t = rw add-zero
 sets-append l at (a ∷ s) t =
     let shift : suc at + length s ≡ at + suc (length s) = omega arith in
@@ -28,9 +31,7 @@ put-then {s} {t} {before} {between} {after} {m} {n} {at} {next} {last} p q = rec
       sets before at (s ++ t) ∎;
 }
 
-pub put-as : {s t before after : List ℕ} {n at next : ℕ} → s ≡ t → Put t n at before after next → Put s n at before after next
-put-as e p = rw e p
-
+-- a greater limit
 pub put-within : {text before after : List ℕ} {m n at next : ℕ} → m ≤ n → Put text m at before after next → Put text n at before after next
 put-within h p = record { place = p .place; short = le-trans (p .short) h; stored = p .stored }
 
@@ -52,6 +53,11 @@ sets-front (x ∷ text) (y ∷ l) = sets-behind x l 0 text ∙ ap (λ (r : List 
 pub put-first : {text before after : List ℕ} {n next : ℕ} → Put text n 0 before after next →
     (next ≡ length text) × ((next ≤ n) × (after ≡ over-front text before))
 put-first {text} {before} p = (p .place ∙ zero-add (length text), (omega (arith, p .place, p .short), p .stored ∙ sets-front text before))
+
+pub length-over-front : (text buffer : List ℕ) → length (over-front text buffer) ≡ length buffer
+length-over-front [] buffer = refl
+length-over-front (x ∷ text) [] = refl
+length-over-front (x ∷ text) (y ∷ buffer) = ap suc (length-over-front text buffer)
 
 -- a buffer that has room holds the text, and then what it held
 pub over-front-is : (text buffer : List ℕ) → length text ≤ length buffer → over-front text buffer ≡ text ++ drop (length text) buffer

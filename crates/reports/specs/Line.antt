@@ -1,4 +1,5 @@
--- The report as its line of text. Definitions only; their laws are in proofs/Decimals.antt, proofs/Lengths.antt and proofs/Examples.antt.
+-- The report as its line of text. Definitions only; their laws are in proofs/Decimals.antt and proofs/Signs.antt, and the lines
+-- that the paper prints are in proofs/Examples.antt.
 use mathlib.Core.Bool.{cond}
 use mathlib.Core.List.{List, [], _∷_, _++_}
 use Prim.Native.Char.{code}
@@ -22,6 +23,7 @@ abbrev pub bytes : String → List ℕ
 bytes String.[] = []
 bytes (String._∷_ c s) = code c ∷ bytes s
 
+-- the byte of a digit: 48 is that of 0
 abbrev pub digit : ℕ → ℕ
 digit d = 48 + d
 
@@ -34,7 +36,7 @@ digits-in (suc left) n = let front = digits-in left (n / 10) in cond (ltb n 10) 
 unfoldable pub digits : ℕ → List ℕ
 digits n = digits-in n n
 
--- a whole number, with its sign if it is below zero
+-- a whole number, with a minus sign if it is below zero
 unfoldable pub whole : ℤ → List ℕ
 whole (pos n) = digits n
 whole (negsuc n) = bytes "-" ++ digits (suc n)
@@ -45,6 +47,7 @@ whole (negsuc n) = bytes "-" ++ digits (suc n)
 abbrev pub named : String → ℕ → List ℕ
 named words n = bytes words ++ digits n
 
+-- a whole number after a space
 abbrev pub after-space : ℤ → List ℕ
 after-space z = bytes " " ++ whole z
 
@@ -56,7 +59,7 @@ numbers x = after-space (x .a) ++ after-space (x .b) ++ after-space (x .c) ++ af
 abbrev pub named-entry : String → Entry → List ℕ
 named-entry words x = bytes words ++ numbers x
 
--- "`list 0 byte 0`"
+-- what is returned of a byte: "list, offset"
 unfoldable pub place : ℕ → ℕ → List ℕ
 place list offset = named " list " list ++ named " byte " offset
 
@@ -66,16 +69,16 @@ refusal (Call number) = named "refused " number
 refusal (Byte number list offset) = named "refused " number ++ place list offset
 refusal (Step number steps) = named "refused " number ++ named " steps " steps
 
--- "`exponent 0 steps 0 nodes 3 values 2`"
+-- the part that a finished run adds: "exponent 0 steps 0 nodes 3 values 2"
 unfoldable pub counts : Report → List ℕ
 counts r = named " exponent " (r .exponent) ++ named " steps " (r .steps) ++ named " nodes " (r .nodes) ++ named " values " (r .values)
 
--- "`different row 0 column 1 entry 0 0 0 1 corner 0 0 0 0`"
+-- "different row 0 column 1 entry 0 0 0 1 corner 0 0 0 0"
 unfoldable pub difference : Difference → List ℕ
 difference d =
     named "different row " (d .row) ++ named " column " (d .column) ++ named-entry " entry" (d .entry) ++ named-entry " corner" (d .corner)
 
--- "`equal factor 0 0 0 1`"
+-- "equal factor 0 0 0 1", or one of the two above; the counts follow unless it is a refusal
 abbrev pub answer : Verdict → Report → List ℕ
 answer (Equal factor) r = named-entry "equal factor" factor ++ counts r
 answer (Different d) r = difference d ++ counts r

@@ -1,4 +1,5 @@
-// The report as its line of text.
+// The report as its line of text. Each function writes a part of the line at a place of the buffer, of which it keeps the rest,
+// and returns the place after it.
 use algebra::Entry;
 use miters::Difference;
 use miters::Refusal;
@@ -12,7 +13,7 @@ ghost use lib.ListN.{length};
 ghost use Rattle.reports.specs.Line.{digits, after-space, numbers, place, refusal, counts, difference, answer, line, over-front};
 ghost use Rattle.reports.specs.Writing.{room, Put};
 
-// The bytes of a buffer, which every line fits.
+// The bytes of a buffer: every line fits, since the longest has 224.
 pub const ROOM: usize = 256;
 
 fn put_byte(byte: u8, buffer: &mut [u8; ROOM], at: usize) -> usize
@@ -35,6 +36,7 @@ fn put_words(words: &[u8], buffer: &mut [u8; ROOM], at: usize) -> usize
     at + i
 }
 
+// The decimal digits of n: those of its tenth, and the last one.
 fn put_digits(n: usize, buffer: &mut [u8; ROOM], at: usize) -> usize
     requires { ⌜ at + length (digits n) ≤ room ⌝ }
     ensures { λ r. ⌜ Put (digits n) (length (digits n)) at (now (buffer .entry)) (now (buffer .exit)) r ⌝ }
@@ -46,6 +48,7 @@ fn put_digits(n: usize, buffer: &mut [u8; ROOM], at: usize) -> usize
     put_byte(48 + (n % 10) as u8, buffer, last)
 }
 
+// z without its sign; the opposite of the least i32 is no i32.
 fn magnitude(z: i32) -> usize
     ensures { λ r. ⌜ r ≡ natAbs z ⌝ }
 {
@@ -69,6 +72,7 @@ fn put_whole(z: i32, buffer: &mut [u8; ROOM], at: usize) -> usize
     put_digits(magnitude(z), buffer, next)
 }
 
+// Some words, which end in a space, and a number.
 fn put_named(words: &[u8], n: u32, buffer: &mut [u8; ROOM], at: usize) -> usize
     requires { ⌜ at + (length (now words) + 10) ≤ room ⌝ }
     ensures { λ r. ⌜ Put (now (words .entry) ++ digits n) (length (now (words .entry)) + 10) at (now (buffer .entry)) (now (buffer .exit)) r ⌝ }
@@ -77,6 +81,7 @@ fn put_named(words: &[u8], n: u32, buffer: &mut [u8; ROOM], at: usize) -> usize
     put_digits(n as usize, buffer, next)
 }
 
+// Some words and the four numbers of an entry.
 fn put_entry(words: &[u8], x: Entry, buffer: &mut [u8; ROOM], at: usize) -> usize
     requires { ⌜ at + (length (now words) + 48) ≤ room ⌝ }
     ensures { λ r. ⌜ Put (now (words .entry) ++ numbers x) (length (now (words .entry)) + 48) at (now (buffer .entry)) (now (buffer .exit)) r ⌝ }
@@ -88,6 +93,7 @@ fn put_entry(words: &[u8], x: Entry, buffer: &mut [u8; ROOM], at: usize) -> usiz
     put_whole(x.d, buffer, d)
 }
 
+// What a finished run adds to its verdict.
 fn put_counts(report: Report, buffer: &mut [u8; ROOM], at: usize) -> usize
     requires { ⌜ at + 72 ≤ room ⌝ }
     ensures { λ r. ⌜ Put (counts report) 72 at (now (buffer .entry)) (now (buffer .exit)) r ⌝ }
@@ -108,6 +114,7 @@ fn put_difference(d: Difference, buffer: &mut [u8; ROOM], at: usize) -> usize
     put_entry(b" corner", d.corner, buffer, corner)
 }
 
+// What a refusal of a byte returns beside its number.
 fn put_place(list: u32, offset: usize, buffer: &mut [u8; ROOM], at: usize) -> usize
     requires { ⌜ at + 42 ≤ room ⌝ }
     ensures { λ r. ⌜ Put (place list offset) 42 at (now (buffer .entry)) (now (buffer .exit)) r ⌝ }
@@ -156,7 +163,7 @@ fn put_answer(report: Report, buffer: &mut [u8; ROOM], at: usize) -> usize
     }
 }
 
-// The line, written to the front of the buffer; its length is returned.
+// The report's line, written to the front of the buffer, and its length.
 pub fn write_line(report: Report, buffer: &mut [u8; ROOM]) -> usize
     ensures length { λ r. ⌜ r ≡ length (line report) ⌝ }
     ensures short { λ r. ⌜ r ≤ 224 ⌝ }

@@ -5,9 +5,6 @@ use Rattle.reports.specs.Line.{counts}
 use Rattle.reports.proofs.Puts.{put-then}
 use Rattle.reports.proofs.put_counts.Statement.{statement}
 use Rattle.reports.proofs.put_counts.Tie as tie
-use Rattle.reports.proofs.put_counts.Reads as reads
-use Rattle.reports.proofs.put_counts.Lts as lts
-use Rattle.reports.proofs.put_named.Reads as put-named-reads
 
 slice-aggregate-put-named : tie.Need-slice-aggregate-put-named
 slice-aggregate-put-named c = search needs

@@ -4,8 +4,6 @@ use Rattle.reports.proofs.Decimals.{length-digits-32}
 use Rattle.reports.proofs.Puts.{put-then, put-within}
 use Rattle.reports.proofs.put_named.Statement.{statement}
 use Rattle.reports.proofs.put_named.Tie as tie
-use Rattle.reports.proofs.put_named.Reads as reads
-use Rattle.reports.proofs.put_named.Lts as lts
 
 put-words-requires : tie.Need-put-words-requires
 put-words-requires c κs = omega arith

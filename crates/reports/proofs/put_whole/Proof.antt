@@ -5,11 +5,6 @@ use Rattle.reports.proofs.Puts.{put-then, put-within}
 use Rattle.reports.proofs.Signs.{magnitude-short, text-below, text-above}
 use Rattle.reports.proofs.put_whole.Statement.{statement}
 use Rattle.reports.proofs.put_whole.Tie as tie
-use Rattle.reports.proofs.put_whole.Reads as reads
-use Rattle.reports.proofs.put_whole.Lts as lts
-use Rattle.reports.proofs.magnitude.Reads as magnitude-reads
-use Rattle.reports.proofs.put_byte.Reads as put-byte-reads
-use Rattle.reports.proofs.put_digits.Reads as put-digits-reads
 
 put-byte-requires : tie.Need-put-byte-requires
 put-byte-requires c κs = search needs

@@ -9,8 +9,6 @@ use lib.Seq.{sets}
 use Rattle.reports.proofs.Puts.{put-more, put-all}
 use Rattle.reports.proofs.put_words.Statement.{statement}
 use Rattle.reports.proofs.put_words.Tie as tie
-use Rattle.reports.proofs.put_words.Reads as reads
-use Rattle.reports.proofs.put_words.Lts as lts
 
 abbrev Inv-loop : tie.InvT-loop
 Inv-loop words buffer₀ at i₀ buffer i = (i ≤ length words) × (buffer ≡ sets buffer₀ at (take i words))
