@@ -1,14 +1,12 @@
 -- Decimal numbers: the digits of a number are bytes of digits, read back they are the number, the first is not 0 unless it is
 -- alone, and there are no more of them than the number needs. Assumes nothing.
-use mathlib.Core.Path.{_≡_, refl, sym, ap, _∙_, _≡⟨_⟩_, _∎}
+use mathlib.Core.Path.{_≡_, refl, sym, ap, _∙_}
 use mathlib.Core.Bool.{Bool, cond}
 use mathlib.Core.List.{List, [], _∷_, _++_}
 use Prim.Native.Nat.{ℕ, zero, suc, _+_, _*_, _-_, _/_, _%_, _^_, _≤_, _<_}
 use native.Mathlib.Decide.{decLt}
-use native.Mathlib.Nat.{div-lt-iff-lt-mul}
 use native.Mathlib.Omega.{arith}
 use borrow.Author.Tests.{lt-ltb, le-ltb}
-use lib.Dec.{ltb, lit<}
 use lib.ListN.{length, getD, length-append}
 use Rattle.reports.specs.Line.{digit, digits-in, digits}
 
