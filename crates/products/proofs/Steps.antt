@@ -17,7 +17,7 @@ use Rattle.miters.specs.Run.{Lent, in-width, has-room}
 use Rattle.transitions.specs.declared.State.{State}
 use Rattle.transitions.specs.Plan.{Plan, plan-of}
 use Rattle.transitions.specs.State.{made, inside}
-use Rattle.transitions.specs.Next.{start}
+use Rattle.transitions.specs.Next.{numbered, start}
 use Rattle.transitions.specs.Valid.{IsZero, ValidPlan, ValidState}
 use Rattle.transitions.specs.Prepare.{product-on, PlanFor}
 use Rattle.transitions.proofs.Starts.{plan-valid, start-valid, start-made, start-inside}
@@ -28,7 +28,7 @@ use Rattle.turns.specs.Progress as progress
 use Rattle.turns.specs.Work.{source-in, Work, node-room, value-room, store-in, progress-of, Filled, Working}
 use Rattle.turns.specs.Turn.{Ready, Walked}
 use Rattle.turns.proofs.Ends.{building-is, full-is, out-is}
-use Rattle.products.specs.Step.{Given, Fresh, Stepped, built, too-large, too-wide}
+use Rattle.products.specs.Step.{Task, lent-by, Fresh, Stepped, built, too-large, too-wide}
 
 -- ---- how far the walk has come, by the tally
 
@@ -51,8 +51,19 @@ shown w = by-phase (ℕ-discrete (getD (w .tally) 2 0) 0) (ℕ-discrete (getD (w
 
 -- ---- the start
 
-module _ (n : ℕ) (right : Bool) (g : Gate) (M : Matrix) (plan : List ℕ) (cols : List (List ℕ)) (vals : List (List ℤ)) (fits : Fits n g)
-    (for : PlanFor n right g (plan-of plan)) (is-zero : IsZero (diagram n M .store) (plan-of plan .zero)) (given : Given n M plan cols vals) where
+module _ (plan : List ℕ) (cols : List (List ℕ)) (vals : List (List ℤ)) (root : ℕ) (task : Task plan cols vals root) where
+  abbrev n : ℕ
+  n = task .qubits
+
+  abbrev right : Bool
+  right = task .right
+
+  abbrev g : Gate
+  g = task .gate
+
+  abbrev M : Matrix
+  M = task .matrix
+
   abbrev P : Plan
   P = plan-of plan
 
@@ -60,13 +71,16 @@ module _ (n : ℕ) (right : Bool) (g : Gate) (M : Matrix) (plan : List ℕ) (col
   source = source-in plan cols vals
 
   abbrev first : State
-  first = start (diagram n M .root)
+  first = numbered root root 16
+
+  first-is : first ≡ start (diagram n M .root)
+  first-is = ap (λ (r : ℕ). numbered r r 16) (task .root-is)
 
   valid : ValidPlan P (diagram n M .store)
-  valid = plan-valid n right g M P fits for is-zero
+  valid = plan-valid n right g M P (task .fits) (task .planned) (task .zero)
 
   valid-here : ValidPlan P source
-  valid-here = rw (given .source) valid
+  valid-here = rw (task .given .source) valid
 
   builds : (w : Work) → Fresh plan w → getD (w .tally) 2 0 ≡ 0
   builds w fresh = rw (fresh .tally) refl
@@ -84,14 +98,14 @@ module _ (n : ℕ) (right : Bool) (g : Gate) (M : Matrix) (plan : List ℕ) (col
   }
 
   -- the walk may begin
-  pub starts : (w : Work) (at : ℕ) → fitWidth (P .width) ≡ true → Fresh plan w → at ≡ slot-of P first → Ready plan cols vals w at first
-  starts w at fit fresh slot = record {
+  pub starts : (w : Work) (at : ℕ) → Fresh plan w → at ≡ slot-of P first → Ready plan cols vals w at first
+  starts w at fresh slot = record {
     valid-plan = valid-here;
-    fit = fit;
-    valid-state = rw (given .source) (start-valid n right g M P fits for valid);
-    source = given .columns;
-    node-span = given .node-span;
-    value-span = given .value-span;
+    fit = task .width;
+    valid-state = rw (first-is, task .given .source) (start-valid n right g M P (task .fits) (task .planned) valid);
+    source = task .given .columns;
+    node-span = task .given .node-span;
+    value-span = task .given .value-span;
     slot = slot;
     work = begins w fresh;
   }
@@ -100,16 +114,16 @@ module _ (n : ℕ) (right : Bool) (g : Gate) (M : Matrix) (plan : List ℕ) (col
 
   module _ (w w′ : Work) (fresh : Fresh plan w) where
     abbrev lent : Lent
-    lent = record { width = P .width; nodes = node-room w; values = value-room w }
+    lent = lent-by plan w
 
     abbrev result : Matrix
     result = product-on right n g M
 
     inside-is : inside P source first ≡ in-width lent n result
-    inside-is = rw (given .source) (start-inside n right g M P fits for valid)
+    inside-is = rw (first-is, task .given .source) (start-inside n right g M P (task .fits) (task .planned) valid)
 
     made-is : {t : Store Entry} → t ≡ empty → made P source first t ≡ diagram n result
-    made-is e = rw (e, given .source) (start-made n right g M P fits for valid)
+    made-is e = rw (e, first-is, task .given .source) (start-made n right g M P (task .fits) (task .planned) valid)
 
     by-walk : {p p′ : Progress} {r : ℕ} → Shows 0 empty p → Walks (node-room w) (value-room w) P source first p p′ r
         → Shows (getD (w′ .tally) 2 0) (store-in w′) p′ → Stepped lent n result w′ r

@@ -1,16 +1,20 @@
 -- A step by a gate: what its walk starts from, and what it ends in. Definitions only.
 use mathlib.Core.Path.{_≡_}
-use mathlib.Core.Bool.{true, false}
+use mathlib.Core.Bool.{Bool, true, false}
 use mathlib.Core.List.{List, [], _∷_}
 use Prim.Native.Nat.{ℕ, _*_, _<_, _≤_}
 use lib.IntN.{ℤ}
 use lib.ListN.{length, getD}
 use Rattle.algebra.specs.Matrix.{Matrix}
+use Rattle.algebra.specs.Width.{fitWidth}
+use Rattle.gates.specs.Gate.{Gate, Fits}
 use Rattle.diagrams.specs.Diagram.{code, diagram}
 use Rattle.diagrams.specs.UniqueTable.{NodesHeld, ValuesHeld}
 use Rattle.miters.specs.Run.{Lent, in-width, has-room}
 use Rattle.transitions.specs.Plan.{plan-of}
 use Rattle.transitions.specs.Source.{SourceHeld}
+use Rattle.transitions.specs.Valid.{IsZero}
+use Rattle.transitions.specs.Prepare.{product-on, PlanFor}
 use Rattle.tables.specs.Table.{TableFits, table-end}
 use Rattle.turns.specs.Work.{source-in, Work, node-room, value-room, store-in}
 
@@ -35,3 +39,26 @@ pub data Stepped (lent : Lent) (n : ℕ) (M : Matrix) (w : Work) : ℕ → Type 
       → Stepped lent n M w (code (diagram n M .root))
   too-large : {r : ℕ} → in-width lent n M ≡ true → has-room lent n M ≡ false → getD (w .tally) 2 0 ≡ 1 → Stepped lent n M w r
   too-wide : {r : ℕ} → in-width lent n M ≡ false → 1 < getD (w .tally) 2 0 → Stepped lent n M w r
+
+-- a step by a gate, on the left or on the right of a matrix whose diagram the source holds, with its root
+pub record Task (plan : List ℕ) (cols : List (List ℕ)) (vals : List (List ℤ)) (root : ℕ) : Type 0 where
+  pub qubits : ℕ
+  pub right : Bool
+  pub gate : Gate
+  pub matrix : Matrix
+  pub fits : Fits qubits gate
+  pub planned : PlanFor qubits right gate (plan-of plan)
+  pub zero : IsZero (diagram qubits matrix .store) (plan-of plan .zero)
+  pub given : Given qubits matrix plan cols vals
+  pub root-is : root ≡ code (diagram qubits matrix .root)
+  pub width : fitWidth (plan-of plan .width) ≡ true
+
+-- what is lent to it
+abbrev pub lent-by : List ℕ → Work → Lent
+lent-by plan w = record { width = plan-of plan .width; nodes = node-room w; values = value-room w }
+
+-- what it leaves
+abbrev pub Multiplied : List ℕ → List (List ℕ) → List (List ℤ) → ℕ → Work → Work → ℕ → Type 0
+Multiplied plan cols vals root w w′ r =
+    (task : Task plan cols vals root)
+    → Stepped (lent-by plan w) (task .qubits) (product-on (task .right) (task .qubits) (task .gate) (task .matrix)) w′ r
