@@ -272,7 +272,8 @@ module _ {A : Type 0} {hash : A → ℕ} {blank : A} {N heads : ℕ} {l : List A
 
   module _ (room : length l < N) (small : hash x < heads) where
     length-linked : length linked ≡ length index
-    length-linked = length-set (set index (length l) (getD index (N + hash x) 0)) (N + hash x) (length l + 1) ∙ length-set index (length l) (getD index (N + hash x) 0)
+    length-linked = length-set (set index (length l) (getD index (N + hash x) 0)) (N + hash x) (length l + 1)
+        ∙ length-set index (length l) (getD index (N + hash x) 0)
 
     -- the slots of other elements and of other heads stay
     linked-other : (k : ℕ) → k ≢ N + hash x → k ≢ length l → getD linked k 0 ≡ getD index k 0

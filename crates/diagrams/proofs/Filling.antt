@@ -8,7 +8,7 @@ use native.Mathlib.Numerals.{add-one}
 use native.Mathlib.Omega.{arith}
 use lib.ListN.{length, getD, take, drop, set, replicate, length-append, length-replicate, length-take, length-drop, take-append-drop}
 use lib.ListN.{getD-replicate, replicate-append-replicate, List·getD-append, drop-of-length-le}
-use lib.Seq.{drop-cons, set-at, length-take-le, getD-append-add}
+use lib.Seq.{drop-cons, set-at, take-suc, length-take-le, getD-append-add}
 use Rattle.diagrams.specs.Columns.{column, over, zeroed}
 use Rattle.diagrams.specs.UniqueTable.{listed}
 use Rattle.diagrams.proofs.Chains.{length-listed}
@@ -106,6 +106,13 @@ unfolding listed
 map-listed f zero g = refl
 map-listed {B = B} f (suc n) g = map-append f (listed n g) (g n ∷ []) ∙ ap (λ (l : List B). l ++ (f (g n) ∷ [])) (map-listed f n g)
 
+-- what the first slots of a column have
+pub listed-take : {A : Type 0} (l : List A) (blank : A) (n : ℕ) → n ≤ length l → listed n (λ i. getD l i blank) ≡ take n l
+unfolding listed
+listed-take l blank zero h = refl
+listed-take {A} l blank (suc n) h =
+    ap (λ (m : List A). m ++ (getD l n blank ∷ [])) (listed-take l blank n (omega arith)) ∙ sym (take-suc l n blank h)
+
 -- ---- a loop that goes through the slots
 
 -- it has come to slot i on its way from one slot to another, and the column has the form that it has there
@@ -131,5 +138,6 @@ pub clearing-length : {A : Type 0} (nought : A) (old : List A) (from : ℕ) {to 
 clearing-length nought old from {i = i} passing fits =
     ap length (passing .is) ∙ length-zeroed nought old from i (passing .begun) (omega (arith, passing .bound))
 
-pub filling-length : {A : Type 0} (g : ℕ → A) (old : List A) {to : ℕ} {l : List A} {i : ℕ} → Passing (filled g old) 0 to l i → to ≤ length old → length l ≡ length old
+pub filling-length : {A : Type 0} (g : ℕ → A) (old : List A) {to : ℕ} {l : List A} {i : ℕ}
+    → Passing (filled g old) 0 to l i → to ≤ length old → length l ≡ length old
 filling-length g old {i = i} passing fits = ap length (passing .is) ∙ length-filled g old i (omega (arith, passing .bound))

@@ -45,7 +45,8 @@ pairs-published p q r s = record { of-a = p; of-b = q; of-c = r; of-d = s }
 module _ {ns : List Node} {level low high level′ low′ high′ : List ℕ} (written : NodesWritten ns level low high level′ low′ high′) where
   -- one node more
   written-snoc : (n : Node) (i : ℕ) {lv lo hi : ℕ} → i ≡ length ns → NodeColumns level low high (i + 1)
-      → lv ≡ n .level → lo ≡ code (n .low) → hi ≡ code (n .high) → NodesWritten (ns ++ (n ∷ [])) level low high (set level′ i lv) (set low′ i lo) (set high′ i hi)
+      → lv ≡ n .level → lo ≡ code (n .low) → hi ≡ code (n .high)
+      → NodesWritten (ns ++ (n ∷ [])) level low high (set level′ i lv) (set low′ i lo) (set high′ i hi)
   written-snoc n i e fits p q r = record {
     of-level = column (λ m. m .level) level p (written .of-level) (fits .in-level);
     of-low = column (λ m. code (m .low)) low q (written .of-low) (fits .in-low);
@@ -63,7 +64,8 @@ module _ {ns : List Node} {level low high level′ low′ high′ : List ℕ} (w
 -- the nodes of k qubits, with x for their root, and those of one qubit more
 module _ (lv k x : ℕ) {level low high level₀ low₀ high₀ level₁ low₁ high₁ : List ℕ} where
   pub qubit-written : NodesWritten (identity-nodes (suc (suc lv)) k) level low high level₀ low₀ high₀ → NodeColumns level low high (3 * k + 3)
-      → x ≡ code (identity-root k) → QubitSet k lv x level₀ low₀ high₀ level₁ low₁ high₁ → NodesWritten (identity-nodes lv (k + 1)) level low high level₁ low₁ high₁
+      → x ≡ code (identity-root k) → QubitSet k lv x level₀ low₀ high₀ level₁ low₁ high₁
+      → NodesWritten (identity-nodes lv (k + 1)) level low high level₁ low₁ high₁
   unfolding identity-nodes
   qubit-written w fits root is =
       let long : length (identity-nodes (suc (suc lv)) k) ≡ 3 * k = length-identity (suc (suc lv)) k in
@@ -119,7 +121,8 @@ module _ {n : ℕ} {level₀ low₀ high₀ : List ℕ} where
   }
 
   module _ {level low high : List ℕ} {k x : ℕ} (w : Writing n level₀ low₀ high₀ level low high k x) where
-    pub writing-goes : {level′ low′ high′ : List ℕ} → k < n → NodeColumns level₀ low₀ high₀ (3 * n) → QubitSet k (2 * (n - 1 - k)) x level low high level′ low′ high′
+    pub writing-goes : {level′ low′ high′ : List ℕ} → k < n → NodeColumns level₀ low₀ high₀ (3 * n)
+        → QubitSet k (2 * (n - 1 - k)) x level low high level′ low′ high′
         → Writing n level₀ low₀ high₀ level′ low′ high′ (k + 1) (6 * k + 5)
     unfolding identity-root
     writing-goes {level′} {low′} {high′} less fits is = record {

@@ -83,92 +83,103 @@ values-grow : (n : ℕ) → (more : List Entry) × (𝟙 ∷ 𝟘 ∷ [] ≡ ide
 values-grow zero = (𝟘 ∷ [], refl)
 values-grow (suc n) = ([], refl)
 
+-- the identity put into an empty store, from a level on
+abbrev reduced-identity : ℕ → ℕ → Diagram Entry
+reduced-identity level n = reduce same-entry (levels n) level (entries identity) empty
+
 module _ (level n : ℕ) where
   abbrev below : List Node
   below = identity-nodes (suc (suc level)) n
 
+  abbrev x : Ref
+  x = identity-root n
+
   abbrev first : Node
-  first = branch (suc level) (identity-root n) (value 1)
+  first = branch (suc level) x (value 1)
 
   abbrev second : Node
-  second = branch (suc level) (value 1) (identity-root n)
+  second = branch (suc level) (value 1) x
 
   abbrev third : Node
   third = branch level (node (3 * n)) (node (3 * n + 1))
 
-  -- nodes with the two values
-  abbrev with-values : List Node → Store Entry
-  with-values ns = holding ns (𝟙 ∷ 𝟘 ∷ [])
+  abbrev one : List Node
+  one = below ++ (first ∷ [])
 
   abbrev two : List Node
-  two = (below ++ (first ∷ [])) ++ (second ∷ [])
+  two = one ++ (second ∷ [])
+
+  -- the store below, and nodes with both values
+  abbrev inner : Store Entry
+  inner = holding below (identity-values n)
+
+  abbrev outer : List Node → Store Entry
+  outer ns = holding ns (𝟙 ∷ 𝟘 ∷ [])
+
+  length-one : length one ≡ 3 * n + 1
+  length-one = omega (arith, length-append below (first ∷ []), length-identity (suc (suc level)) n)
 
   length-two : length two ≡ 3 * n + 2
-  length-two = omega (arith, length-append (below ++ (first ∷ [])) (second ∷ []), length-append below (first ∷ []), length-identity (suc (suc level)) n)
+  length-two = omega (arith, length-append one (second ∷ []), length-one)
 
   from-two : From (suc level) two
   from-two =
       let P : Node → Type 0 = λ m. suc level ≤ m .level in
       let later : From (suc level) below = λ i h. omega (arith, identity-from (suc (suc level)) n i h) in
-      all-snoc P unused second (below ++ (first ∷ [])) (all-snoc P unused first below later (omega arith)) (omega arith)
+      all-snoc P unused second one (all-snoc P unused first below later (omega arith)) (omega arith)
 
-  second-absent : Absent unused second (below ++ (first ∷ []))
+  inner-absent : (m : Node) → m .level ≡ suc level → Absent unused m below
+  inner-absent m e = below-absent (suc (suc level)) m below (omega arith) (identity-from (suc (suc level)) n)
+
+  second-absent : Absent unused second one
   second-absent =
-      all-snoc (λ m. m ≡ second → ⊥) unused first below
-      (below-absent (suc (suc level)) second below (omega arith) (identity-from (suc (suc level)) n))
-      (λ e. root-apart n (ap (λ (m : Node). m .low) e))
+      all-snoc (λ m. m ≡ second → ⊥) unused first below (inner-absent second refl) (λ e. root-apart n (ap (λ (m : Node). m .low) e))
 
-  module _ (reduced : reduce same-entry (levels n) (suc (suc level)) (entries identity) empty ≡ rooted (holding below (identity-values n)) (identity-root n)) where
+  module _ (inner-reduced : reduced-identity (suc (suc level)) n ≡ rooted inner x) where
     -- the row bit 0: the rest of the identity, and zero
-    low-row : reduce same-entry (suc (levels n)) (suc level) (λ l. entries identity (false ∷ l)) empty ≡ rooted (with-values (below ++ (first ∷ []))) (node (3 * n))
+    low-row : reduce same-entry (suc (levels n)) (suc level) (λ l. entries identity (false ∷ l)) empty ≡ rooted (outer one) (node (3 * n))
     unfolding identity
     low-row =
-        reduce-step same-entry (levels n) (suc level) (λ l. entries identity (false ∷ l)) empty (holding below (identity-values n)) (with-values below)
-        (identity-root n) (value 1) reduced (reduce-constant entry-decides (levels n) (suc (suc level)) 𝟘 (holding below (identity-values n)) ∙ put-zero n below)
-        ∙ make-fresh first (with-values below) (root-apart n) (below-absent (suc (suc level)) first below (omega arith) (identity-from (suc (suc level)) n))
-        ∙ ap (λ (k : ℕ). rooted (with-values (below ++ (first ∷ []))) (node k)) (length-identity (suc (suc level)) n)
+        reduce-step same-entry (levels n) (suc level) (λ l. entries identity (false ∷ l)) empty inner (outer below) x (value 1) inner-reduced
+        (reduce-constant entry-decides (levels n) (suc (suc level)) 𝟘 inner ∙ put-zero n below)
+        ∙ make-fresh first (outer below) (root-apart n) (inner-absent first refl)
+        ∙ ap (λ (k : ℕ). rooted (outer one) (node k)) (length-identity (suc (suc level)) n)
 
     -- the row bit 1: zero, and the rest again
-    high-row : reduce same-entry (suc (levels n)) (suc level) (λ l. entries identity (true ∷ l)) (with-values (below ++ (first ∷ [])))
-        ≡ rooted (with-values two) (node (3 * n + 1))
+    high-row : reduce same-entry (suc (levels n)) (suc level) (λ l. entries identity (true ∷ l)) (outer one) ≡ rooted (outer two) (node (3 * n + 1))
     unfolding identity
     high-row =
-        reduce-step same-entry (levels n) (suc level) (λ l. entries identity (true ∷ l)) middle middle middle (value 1) (identity-root n)
-        (reduce-constant entry-decides (levels n) (suc (suc level)) 𝟘 middle ∙ put-zero (suc n) (below ++ (first ∷ [])))
-        (reduce-again entry-decides (levels n) (suc (suc level)) (entries identity) empty middle grown ∙ ap (λ (D : Diagram Entry). rooted middle (D .root)) reduced)
-        ∙ make-fresh second middle (λ e. root-apart n (sym e)) second-absent
-        ∙ ap (λ (k : ℕ). rooted (with-values two) (node k)) long
+        reduce-step same-entry (levels n) (suc level) (λ l. entries identity (true ∷ l)) (outer one) (outer one) (outer one) (value 1) x
+        (reduce-constant entry-decides (levels n) (suc (suc level)) 𝟘 (outer one) ∙ put-zero (suc n) one)
+        (reduce-again entry-decides (levels n) (suc (suc level)) (entries identity) empty (outer one) grown
+        ∙ ap (λ (D : Diagram Entry). rooted (outer one) (D .root)) inner-reduced)
+        ∙ make-fresh second (outer one) (λ e. root-apart n (sym e)) second-absent
+        ∙ ap (λ (k : ℕ). rooted (outer two) (node k)) length-one
       where
-        middle : Store Entry
-        middle = with-values (below ++ (first ∷ []))
-
-        grown : Extends (reduce same-entry (levels n) (suc (suc level)) (entries identity) empty .store) middle
-        grown = subst (λ (D : Diagram Entry). Extends (D .store) middle) (sym reduced) (record {
+        grown : Extends (reduced-identity (suc (suc level)) n .store) (outer one)
+        grown = subst (λ (D : Diagram Entry). Extends (D .store) (outer one)) (sym inner-reduced) (record {
           more-nodes = first ∷ [];
           more-values = values-grow n .0;
           nodes-are = refl;
           values-are = values-grow n .1;
         })
 
-        long : length (below ++ (first ∷ [])) ≡ 3 * n + 1
-        long = omega (arith, length-append below (first ∷ []), length-identity (suc (suc level)) n)
-
-    qubit-reduced : reduce same-entry (levels (suc n)) level (entries identity) empty ≡ rooted (with-values (identity-nodes level (suc n))) (node (3 * n + 2))
+    qubit-reduced : reduced-identity level (suc n) ≡ rooted (outer (identity-nodes level (suc n))) (node (3 * n + 2))
     unfolding identity-nodes
     qubit-reduced =
-        reduce-step same-entry (suc (levels n)) level (entries identity) empty (with-values (below ++ (first ∷ []))) (with-values two) (node (3 * n)) (node (3 * n + 1))
-        low-row high-row
-        ∙ make-fresh third (with-values two) children-differ (below-absent (suc level) third two (omega arith) from-two)
-        ∙ ap (λ (k : ℕ). rooted (with-values (two ++ (third ∷ []))) (node k)) length-two
-        ∙ ap (λ (ns : List Node). rooted (with-values ns) (node (3 * n + 2))) (snoc-three below first second third)
+        reduce-step same-entry (suc (levels n)) level (entries identity) empty (outer one) (outer two) (node (3 * n)) (node (3 * n + 1)) low-row high-row
+        ∙ make-fresh third (outer two) children-differ (below-absent (suc level) third two (omega arith) from-two)
+        ∙ ap (λ (k : ℕ). rooted (outer (two ++ (third ∷ []))) (node k)) length-two
+        ∙ ap (λ (ns : List Node). rooted (outer ns) (node (3 * n + 2))) (snoc-three below first second third)
       where
         children-differ : node (3 * n) ≡ node (3 * n + 1) → ⊥
         children-differ e = let same : 3 * n ≡ 3 * n + 1 = cc in omega arith
 
-identity-reduced : (n level : ℕ) → reduce same-entry (levels n) level (entries identity) empty ≡ rooted (holding (identity-nodes level n) (identity-values n)) (identity-root n)
+identity-reduced : (n level : ℕ) → reduced-identity level n ≡ rooted (holding (identity-nodes level n) (identity-values n)) (identity-root n)
 unfolding reduce identity identity-nodes identity-root
 identity-reduced zero level = refl
 identity-reduced (suc n) level = qubit-reduced level n (identity-reduced n (suc (suc level)))
 
-pub identity-diagram : (n : ℕ) → diagram (suc n) identity ≡ rooted (identity-store (suc n)) (identity-root (suc n))
-identity-diagram n = identity-reduced (suc n) 0
+pub identity-diagram : (n : ℕ) → 0 < n → diagram n identity ≡ rooted (identity-store n) (identity-root n)
+identity-diagram zero some = absurd (omega arith)
+identity-diagram (suc n) some = identity-reduced (suc n) 0

@@ -26,17 +26,17 @@ module _ (level low high : List ℕ) (i lv lo hi : ℕ) where
   abbrev test : Bool
   test = same-node (node-in level low high i) (branch lv (ref-of lo) (ref-of hi))
 
-  by-numbers : test ≡ (eqb (getD level i 0) lv && (eqb (getD low i 0) lo && eqb (getD high i 0) hi))
-  by-numbers = simp code-ref-of
+  by-tests : {s t : Bool} → eqb (getD low i 0) lo ≡ s → eqb (getD high i 0) hi ≡ t → test ≡ (eqb (getD level i 0) lv && (s && t))
+  by-tests p q = simp code-ref-of (ap₂ (λ (s t : Bool). eqb (getD level i 0) lv && (s && t)) p q)
 
   pub other-low : (getD low i 0 ≡ lo → ⊥) → false ≡ test
-  other-low p = sym (by-numbers ∙ ap (λ (t : Bool). eqb (getD level i 0) lv && (t && eqb (getD high i 0) hi)) (ne-eqb (getD low i 0) lo p) ∙ and-false (eqb (getD level i 0) lv))
+  other-low p = sym (by-tests (ne-eqb (getD low i 0) lo p) refl ∙ and-false (eqb (getD level i 0) lv))
 
   pub other-high : getD low i 0 ≡ lo → (getD high i 0 ≡ hi → ⊥) → false ≡ test
-  other-high q p = sym (by-numbers ∙ ap₂ (λ (s t : Bool). eqb (getD level i 0) lv && (s && t)) (eq-eqb (getD low i 0) lo q) (ne-eqb (getD high i 0) hi p) ∙ and-false (eqb (getD level i 0) lv))
+  other-high p q = sym (by-tests (eq-eqb (getD low i 0) lo p) (ne-eqb (getD high i 0) hi q) ∙ and-false (eqb (getD level i 0) lv))
 
   pub by-level : getD low i 0 ≡ lo → getD high i 0 ≡ hi → eqb (getD level i 0) lv ≡ test
-  by-level q p = sym (by-numbers ∙ ap₂ (λ (s t : Bool). eqb (getD level i 0) lv && (s && t)) (eq-eqb (getD low i 0) lo q) (eq-eqb (getD high i 0) hi p) ∙ and-true (eqb (getD level i 0) lv))
+  by-level p q = sym (by-tests (eq-eqb (getD low i 0) lo p) (eq-eqb (getD high i 0) hi q) ∙ and-true (eqb (getD level i 0) lv))
 
 -- ---- a search in the columns
 

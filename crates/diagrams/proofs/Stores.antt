@@ -1,17 +1,21 @@
--- Stores in their columns: what is published in the value columns, and what wiping leaves.
+-- Stores in their columns: what is written and published there, what wiping leaves, and when a store is held.
 -- Assumes nothing.
-use mathlib.Core.Path.{_≡_, refl, sym, _∙_, ap}
-use mathlib.Core.List.{List, _++_, map}
+use mathlib.Core.Path.{_≡_, refl, sym, _∙_, ap, ap₂, _≡⟨_⟩_, _∎}
+use mathlib.Core.List.{List, map}
 use Prim.Native.Nat.{ℕ, _+_, _*_, _≤_}
 use native.Mathlib.Nat.{add-zero}
+use native.Mathlib.Omega.{arith}
 use lib.IntN.{ℤ, pos}
-use lib.ListN.{length, getD, take, drop}
+use lib.ListN.{length, getD, take, drop, length-append, length-drop, length-map}
+use lib.Seq.{take-at}
 use Rattle.algebra.specs.declared.Entry.{Entry}
-use Rattle.diagrams.specs.Diagram.{Node, holding}
-use Rattle.diagrams.specs.Columns.{columns, over, written, zeroed, wiped, NodeColumns, NodesWritten, ValueColumns, Published}
-use Rattle.diagrams.specs.UniqueTable.{listed, entry-in, values-in, ValuesHeld}
+use Rattle.diagrams.specs.Diagram.{Node, code, Store, holding}
+use Rattle.diagrams.specs.Columns.{Columns, columns, column, held, over, written, Begins, Holds, zeroed, wiped}
+use Rattle.diagrams.specs.Columns.{NodeColumns, NodesWritten, ValueColumns, Published}
+use Rattle.diagrams.specs.UniqueTable.{listed, node-in, nodes-in, NodesHeld, entry-in, values-in, ValuesHeld}
 use Rattle.diagrams.proofs.Chains.{listed-agree}
-use Rattle.diagrams.proofs.Filling.{map-listed, zeroed-column}
+use Rattle.diagrams.proofs.Filling.{map-listed, listed-take, zeroed-column}
+use Rattle.diagrams.proofs.References.{code-ref-of}
 
 -- ---- published
 
@@ -69,4 +73,80 @@ wipes {nodes} {values} {level} {low} {high} {a = a} {b = b} {c = c} {d = d} ns v
   b = (t ∙ zeroed-column (pos 0) b values (vs .in-b)) i;
   c = (u ∙ zeroed-column (pos 0) c values (vs .in-c)) i;
   d = (v ∙ zeroed-column (pos 0) d values (vs .in-d)) i;
+}
+
+-- ---- a store held
+
+-- a column with numbers over it begins with them
+begins-over : {A B : Type 0} (f : A → B) {N : ℕ} (xs : List A) (l : List B) → length l ≡ N → length xs ≤ N → Begins f N xs (over (map f xs) l)
+begins-over f xs l long room = record {
+  long = simp (length-append, length-drop, length-map) (omega arith);
+  room = room;
+  first = take-at (map f xs) (drop (length (map f xs)) l) (length xs) (length-map xs f);
+}
+
+begins-by : {A B : Type 0} (f : A → B) {N : ℕ} (xs : List A) (l : List B) {l′ : List B} → length l ≡ N → length xs ≤ N → l′ ≡ over (map f xs) l → Begins f N xs l′
+begins-by f xs l long room e = rw e (begins-over f xs l long room)
+
+-- a node column of a unique table begins with its nodes' numbers
+module _ {N heads : ℕ} {ns : List Node} {level low high index : List ℕ} (held : NodesHeld N heads ns level low high index) where
+  begins-nodes : (f : Node → ℕ) (l : List ℕ) → length l ≡ N → ((i : ℕ) → getD l i 0 ≡ f (node-in level low high i)) → Begins f N ns l
+  begins-nodes f l long numbers = record {
+    long = long;
+    room = held .indexed .room;
+    first =
+        take (length ns) l ≡⟨ sym (listed-take l 0 (length ns) (omega (arith, held .indexed .room))) ⟩
+        listed (length ns) (λ i. getD l i 0) ≡⟨ listed-agree (length ns) _ _ (λ i _. numbers i) ⟩
+        listed (length ns) (λ i. f (node-in level low high i)) ≡⟨ sym (map-listed f (length ns) (node-in level low high)) ⟩
+        map f (nodes-in (length ns) level low high) ≡⟨ ap (map f) (held .nodes) ⟩
+        map f ns ∎;
+  }
+
+-- four columns have this length
+abbrev ValuesLong : ℕ → List ℤ → List ℤ → List ℤ → List ℤ → Type 0
+ValuesLong L a b c d = (length a ≡ L) × (length b ≡ L) × (length c ≡ L) × (length d ≡ L)
+
+-- the nodes of a unique table and the terminals published are a store held
+pub table-holds : {N L heads : ℕ} {ns : List Node} {vs : List Entry} {level low high index : List ℕ} (a b c d : List ℤ) {a′ b′ c′ d′ : List ℤ}
+    → NodesHeld N heads ns level low high index → ValuesLong L a b c d → length vs ≤ L → Published vs a b c d a′ b′ c′ d′
+    → Holds N L (holding ns vs) (columns level low high a′ b′ c′ d′)
+table-holds {vs = vs} {level} {low} {high} a b c d held (p, q, r, s) room published = record {
+  of-level = begins-nodes held (λ n. n .level) level (held .level-long) (λ i. refl);
+  of-low = begins-nodes held (λ n. code (n .low)) low (held .low-long) (λ i. sym (code-ref-of (getD low i 0)));
+  of-high = begins-nodes held (λ n. code (n .high)) high (held .high-long) (λ i. sym (code-ref-of (getD high i 0)));
+  of-a = begins-by (λ x. x .a) vs a p room (published .of-a);
+  of-b = begins-by (λ x. x .b) vs b q room (published .of-b);
+  of-c = begins-by (λ x. x .c) vs c r room (published .of-c);
+  of-d = begins-by (λ x. x .d) vs d s room (published .of-d);
+}
+
+-- so is a store written
+pub written-holds : {N L : ℕ} (s : Store Entry) (C : Columns) → (length (C .level) ≡ N) × (length (C .low) ≡ N) × (length (C .high) ≡ N)
+    → ValuesLong L (C .a) (C .b) (C .c) (C .d) → length (s .nodes) ≤ N → length (s .values) ≤ L → Holds N L s (written s C)
+unfolding written
+written-holds s C (p, q, r) (t, u, v, w) nodes values = record {
+  of-level = begins-over (λ n. n .level) (s .nodes) (C .level) p nodes;
+  of-low = begins-over (λ n. code (n .low)) (s .nodes) (C .low) q nodes;
+  of-high = begins-over (λ n. code (n .high)) (s .nodes) (C .high) r nodes;
+  of-a = begins-over (λ x. x .a) (s .values) (C .a) t values;
+  of-b = begins-over (λ x. x .b) (s .values) (C .b) u values;
+  of-c = begins-over (λ x. x .c) (s .values) (C .c) v values;
+  of-d = begins-over (λ x. x .d) (s .values) (C .d) w values;
+}
+
+wiped-begins : {A B : Type 0} {f : A → B} {N : ℕ} {xs : List A} {l : List B} (nought : B) → Begins f N xs l
+    → column nought (length l) (take (length xs) l) ≡ column nought N (map f xs)
+wiped-begins {N = N} nought begins = ap₂ (column nought) (begins .long) (begins .first)
+
+-- wiped past it, it is in its columns
+pub wiped-held : {N L : ℕ} {s : Store Entry} {C : Columns} → Holds N L s C → wiped (length (s .nodes)) (length (s .values)) C ≡ held N L s
+unfolding wiped held
+wiped-held holds i = record {
+  level = wiped-begins 0 (holds .of-level) i;
+  low = wiped-begins 0 (holds .of-low) i;
+  high = wiped-begins 0 (holds .of-high) i;
+  a = wiped-begins (pos 0) (holds .of-a) i;
+  b = wiped-begins (pos 0) (holds .of-b) i;
+  c = wiped-begins (pos 0) (holds .of-c) i;
+  d = wiped-begins (pos 0) (holds .of-d) i;
 }

@@ -154,8 +154,10 @@ module _ {L heads : ℕ} {vs : List Entry} {vals : List ℤ} {index : List ℕ} 
         → ValueMade vals index vals′ (set (set index used first) (L + hash) (used + 1)) L heads e vs (2 * used)
     made-next hash used first h none u below at-head written =
         put-next entry-decides 𝟘 e vs _ L _ _ p is used u below none
-        (λ absent. rw (h, written)
-        (next-held used first u below (rw h at at-head) absent, slots-past vals used e (4 * length (vs ++ (e ∷ []))) (omega (arith, length-append vs (e ∷ [])))))
+        (λ absent. rw (h, written) (
+          next-held used first u below (rw h at at-head) absent,
+          slots-past vals used e (4 * length (vs ++ (e ∷ []))) (omega (arith, length-append vs (e ∷ []))),
+        ))
 
 -- ---- in a store
 

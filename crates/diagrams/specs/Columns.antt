@@ -61,6 +61,22 @@ written s C = record {
   d = over (map (λ (x : Entry). x .d) (s .values)) (C .d);
 }
 
+-- a column of this length begins with the numbers f of these elements
+pub record Begins {A B : Type 0} (f : A → B) (N : ℕ) (xs : List A) (l : List B) : Type 0 where
+  pub long : length l ≡ N
+  pub room : length xs ≤ N
+  pub first : take (length xs) l ≡ map f xs
+
+-- the columns of lengths N and L hold a store in their first slots, whatever stands in the others
+pub record Holds (N L : ℕ) (s : Store Entry) (C : Columns) : Type 0 where
+  pub of-level : Begins (λ (n : Node). n .level) N (s .nodes) (C .level)
+  pub of-low : Begins (λ (n : Node). code (n .low)) N (s .nodes) (C .low)
+  pub of-high : Begins (λ (n : Node). code (n .high)) N (s .nodes) (C .high)
+  pub of-a : Begins (λ (x : Entry). x .a) L (s .values) (C .a)
+  pub of-b : Begins (λ (x : Entry). x .b) L (s .values) (C .b)
+  pub of-c : Begins (λ (x : Entry). x .c) L (s .values) (C .c)
+  pub of-d : Begins (λ (x : Entry). x .d) L (s .values) (C .d)
+
 -- "all 0"
 unfoldable pub cleared : ℕ → ℕ → Columns
 cleared N L = record {

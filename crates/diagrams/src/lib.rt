@@ -9,9 +9,11 @@ ghost use Prim.Native.Nat.{_+_, _*_, _/_, _^_, _<_, _≤_};
 ghost use lib.IntN.{pos};
 ghost use lib.ListN.{length, getD, set};
 ghost use Rattle.diagrams.specs.Diagram.{branch, ref-of, same-node, same-entry};
-ghost use Rattle.diagrams.specs.Columns.{columns, over, written, zeroed, wiped, NodeColumns, NodesWritten, entry-of, entries-of, ValueColumns, Published, zero-ref};
+ghost use Rattle.diagrams.specs.Columns.{columns, over, written, zeroed, wiped, NodeColumns, NodesWritten};
+ghost use Rattle.diagrams.specs.Columns.{entry-of, entries-of, ValueColumns, Published, zero-ref};
 ghost use Rattle.diagrams.specs.Identity.{QubitSet, identity-nodes, identity-store};
-ghost use Rattle.diagrams.specs.UniqueTable.{listed, found, node-in, nodes-in, node-hash, NodesHeld, NodeMade, lifted, entry-in, with-entry, values-in, value-hash, ValuesHeld, ValueMade};
+ghost use Rattle.diagrams.specs.UniqueTable.{listed, found, node-in, nodes-in, node-hash, NodesHeld, NodeMade};
+ghost use Rattle.diagrams.specs.UniqueTable.{lifted, entry-in, with-entry, values-in, value-hash, ValuesHeld, ValueMade};
 
 // No slot is left.
 pub const FULL: u32 = 4294967295;
@@ -85,7 +87,8 @@ pub fn make_node(
     ensures { λ r. ⌜ NodeMade
         (now (level .entry)) (now (low .entry)) (now (high .entry)) (now (index .entry))
         (now (level .exit)) (now (low .exit)) (now (high .exit)) (now (index .exit))
-        (length (now (level .entry))) heads (branch lv (ref-of lo) (ref-of hi)) (nodes-in used (now (level .entry)) (now (low .entry)) (now (high .entry))) r ⌝ }
+        (length (now (level .entry))) heads (branch lv (ref-of lo) (ref-of hi))
+        (nodes-in used (now (level .entry)) (now (low .entry)) (now (high .entry))) r ⌝ }
 {
     if lo == hi {
         return lo;

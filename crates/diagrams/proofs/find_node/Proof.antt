@@ -57,10 +57,11 @@ mul-p c = record { fits = omega (arith, within (c .before .before) .small) }
 shared-slice-read-p : tie.Need-shared-slice-read-p Inv-loop μ-loop
 shared-slice-read-p c = within (c .before .before .before) .in-index
 
+-- on to the next number of the chain
 again : (c : tie.Else1 Inv-loop μ-loop) → let head = c .before .before .before in let at = start head .args in
-    let q = getD (at .index .now) (head .loop .p - 1) 0 in
-    Searching (node-hash (at .heads)) unused (nodes-in (at .used) (at .level .now) (at .low .now) (at .high .now)) (branch (at .lv) (ref-of (at .lo)) (ref-of (at .hi))) q
-    × (q < head .loop .p)
+    let ns = nodes-in (at .used) (at .level .now) (at .low .now) (at .high .now) in
+    let next = getD (at .index .now) (head .loop .p - 1) 0 in
+    Searching (node-hash (at .heads)) unused ns (branch (at .lv) (ref-of (at .lo)) (ref-of (at .hi))) next × (next < head .loop .p)
 again c =
     let head = c .before .before .before in
     turn-again _ _ (start head .pre .0 .indexed) _ node-decides (head .loop .p) (head .loop .inv) (c .before .before .loop-test .taken)

@@ -24,7 +24,7 @@ abbrev μ-loop : tie.MeasureT-loop
 abbrev start : tie.At-loop Inv-loop μ-loop → tie.Start Inv-loop μ-loop
 start c = c .before .before
 
--- slots of terminal p − 1 are there
+-- the slots of terminal p − 1 are there
 within : (c : tie.In-loop Inv-loop μ-loop) → let at = start (c .before) .args in InSlots (at .vals .now) (at .index .now) (c .before .loop .p - 1)
 within c =
     let held = start (c .before) .pre .0 in
@@ -65,9 +65,10 @@ mul-p c = record { fits = omega (arith, within (c .before .before .before) .smal
 shared-slice-read-p : tie.Need-shared-slice-read-p Inv-loop μ-loop
 shared-slice-read-p c = within (c .before .before .before .before) .in-index
 
+-- on to the next number of the chain
 again : (c : tie.Else1 Inv-loop μ-loop) → let head = c .before .before .before .before in let at = start head .args in
-    let q = getD (at .index .now) (head .loop .p - 1) 0 in
-    Searching (value-hash (at .heads)) 𝟘 (values-in (at .used) (at .vals .now)) (at .e) q × (q < head .loop .p)
+    let next = getD (at .index .now) (head .loop .p - 1) 0 in
+    Searching (value-hash (at .heads)) 𝟘 (values-in (at .used) (at .vals .now)) (at .e) next × (next < head .loop .p)
 again c =
     let head = c .before .before .before .before in
     turn-again _ _ (start head .pre .0 .indexed) _ entry-decides (head .loop .p) (head .loop .inv) (c .before .before .before .loop-test .taken)

@@ -90,16 +90,16 @@ add-result : tie.Need-add-result
 add-result c = omega (arith, small (c .before))
 
 same-length : tie.Need-same-length
-same-length c = search needs
+same-length c = refl
 
 same-length-2 : tie.Need-same-length-2
-same-length-2 c = search needs
+same-length-2 c = refl
 
 same-length-3 : tie.Need-same-length-3
-same-length-3 c = search needs
+same-length-3 c = refl
 
 same-length-4 : tie.Need-same-length-4
-same-length-4 c = search needs
+same-length-4 c = refl
 
 returns-2 : tie.Need-returns-2
 returns-2 c =
@@ -108,16 +108,16 @@ returns-2 c =
     made-found (start s .pre) (at .lv) (at .lo) (at .hi) (s .before .if1 .left) (c .before .find-node .result) (c .before .find-node .ensures) (c .if2 .taken)
 
 same-length-5 : tie.Need-same-length-5
-same-length-5 c = search needs
+same-length-5 c = refl
 
 same-length-6 : tie.Need-same-length-6
-same-length-6 c = search needs
+same-length-6 c = refl
 
 same-length-7 : tie.Need-same-length-7
-same-length-7 c = search needs
+same-length-7 c = refl
 
 same-length-8 : tie.Need-same-length-8
-same-length-8 c = search needs
+same-length-8 c = refl
 
 returns-3 : tie.Need-returns-3
 returns-3 c =
@@ -128,25 +128,25 @@ returns-3 c =
     (omega (arith, used-is s, c .if3 .taken))
 
 mul-level : tie.Need-mul-level
-mul-level c = search needs
+mul-level c = omega (arith, free c .small)
 
 slice-write-level : tie.Need-slice-write-level
 slice-write-level c = free c .in-level
 
 mul-low : tie.Need-mul-low
-mul-low c = search needs
+mul-low c = omega (arith, free c .small)
 
 slice-write-low : tie.Need-slice-write-low
 slice-write-low c = free c .in-low
 
 mul-high : tie.Need-mul-high
-mul-high c = search needs
+mul-high c = omega (arith, free c .small)
 
 slice-write-high : tie.Need-slice-write-high
 slice-write-high c = free c .in-high
 
 mul-index : tie.Need-mul-index
-mul-index c = search needs
+mul-index c = omega (arith, free c .small)
 
 slice-write-index : tie.Need-slice-write-index
 slice-write-index c = free c .in-index
@@ -167,16 +167,16 @@ add-result-2 : tie.Need-add-result-2
 add-result-2 c = omega (arith, free c .small)
 
 same-length-9 : tie.Need-same-length-9
-same-length-9 c = search needs
+same-length-9 c = simp length-set
 
 same-length-10 : tie.Need-same-length-10
-same-length-10 c = search needs
+same-length-10 c = simp length-set
 
 same-length-11 : tie.Need-same-length-11
-same-length-11 c = search needs
+same-length-11 c = simp length-set
 
 same-length-12 : tie.Need-same-length-12
-same-length-12 c = search needs
+same-length-12 c = simp length-set
 
 returns-4 : tie.Need-returns-4
 returns-4 c =

@@ -80,10 +80,10 @@ mul-result : tie.Need-mul-result
 mul-result c = omega (arith, small (c .before))
 
 same-length : tie.Need-same-length
-same-length c = search needs
+same-length c = refl
 
 same-length-2 : tie.Need-same-length-2
-same-length-2 c = search needs
+same-length-2 c = refl
 
 returns : tie.Need-returns
 returns c =
@@ -91,10 +91,10 @@ returns c =
     made-found (start s .pre) (start s .args .e) (c .before .find-value .result) (c .before .find-value .ensures) (c .if1 .taken)
 
 same-length-3 : tie.Need-same-length-3
-same-length-3 c = search needs
+same-length-3 c = refl
 
 same-length-4 : tie.Need-same-length-4
-same-length-4 c = search needs
+same-length-4 c = refl
 
 returns-2 : tie.Need-returns-2
 returns-2 c =
@@ -107,7 +107,7 @@ write-value-requires : tie.Need-write-value-requires
 write-value-requires c κs = free (c .before) .in-vals
 
 mul-index : tie.Need-mul-index
-mul-index c = search needs
+mul-index c = omega (arith, free (c .before .before .before) .small)
 
 slice-write-index : tie.Need-slice-write-index
 slice-write-index c = free (c .before .before .before) .in-index
@@ -125,10 +125,10 @@ mul-result-2 : tie.Need-mul-result-2
 mul-result-2 c = omega (arith, free (c .before .before .before) .small)
 
 same-length-5 : tie.Need-same-length-5
-same-length-5 c = search needs
+same-length-5 c = c .before .write-value .kept .0
 
 same-length-6 : tie.Need-same-length-6
-same-length-6 c = search needs
+same-length-6 c = simp length-set
 
 returns-3 : tie.Need-returns-3
 returns-3 c =

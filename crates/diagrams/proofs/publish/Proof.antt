@@ -35,7 +35,8 @@ returns c =
     let second = third .before .before .before in
     let first = second .before .before .before in
     let at = first .before .before .args in
-    published (at .vals .now) (at .used) (first .copy-numbers .ensures) (second .copy-numbers2 .ensures) (third .copy-numbers3 .ensures) (fourth .copy-numbers4 .ensures)
+    published (at .vals .now) (at .used)
+    (first .copy-numbers .ensures) (second .copy-numbers2 .ensures) (third .copy-numbers3 .ensures) (fourth .copy-numbers4 .ensures)
 
 pub publish-spec : {M : Type 1} → statement M
 publish-spec =

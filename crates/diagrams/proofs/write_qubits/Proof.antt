@@ -43,7 +43,8 @@ loop-again : tie.Need-loop-again Inv-loop μ-loop
 loop-again c =
     let called = c .before .before .before .before .before .before in
     let head = called .before .before .before .before .before in
-    writing-goes (head .loop .inv) (called .before .before .before .before .loop-test .taken) (head .before .before .before .before .pre .1) (called .write-qubit .ensures)
+    let s = head .before .before .before .before in
+    writing-goes (head .loop .inv) (called .before .before .before .before .loop-test .taken) (s .pre .1) (called .write-qubit .ensures)
 
 same-length : tie.Need-same-length Inv-loop μ-loop
 same-length c = omega arith

@@ -43,7 +43,8 @@ mul-result c = omega arith
 returns : tie.Need-returns Inv-loop μ-loop
 returns c =
     let head = c .before .before .before .before in
-    zero-met (head .before .args .used) _ (head .loop .j) (c .before .before .before .loop-test .taken) (sym (tested (c .before)) ∙ c .if1 .taken) (head .loop .inv .1)
+    zero-met (head .before .args .used) _ (head .loop .j) (c .before .before .before .loop-test .taken)
+    (sym (tested (c .before)) ∙ c .if1 .taken) (head .loop .inv .1)
 
 add-j : tie.Need-add-j Inv-loop μ-loop
 add-j c = omega arith
