@@ -7,7 +7,7 @@ ghost use mathlib.Core.Path.{_≡_};
 ghost use mathlib.Core.List.{[], _∷_};
 ghost use Prim.Native.Nat.{_+_, _*_, _/_, _^_, _<_, _≤_};
 ghost use lib.IntN.{pos};
-ghost use lib.ListN.{length, getD, set};
+ghost use lib.ListN.{length, getD};
 ghost use Rattle.diagrams.specs.Diagram.{branch, ref-of, same-node, same-entry};
 ghost use Rattle.diagrams.specs.Columns.{columns, over, written, zeroed, wiped, NodeColumns, NodesWritten};
 ghost use Rattle.diagrams.specs.Columns.{entry-of, entries-of, ValueColumns, Published, zero-ref};

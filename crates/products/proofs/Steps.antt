@@ -1,7 +1,7 @@
 -- A step's walk from the root: it is ready where the tables are fresh, and what it leaves is the product's. Assumes nothing.
 use mathlib.Core.Path.{_≡_, refl, sym, ap, _∙_, subst}
-use mathlib.Core.Bool.{Bool, true, false}
-use mathlib.Core.List.{List, [], _∷_}
+use mathlib.Core.Bool.{Bool}
+use mathlib.Core.List.{List}
 use Prim.Native.Nat.{ℕ, _<_}
 use native.Mathlib.Decide.{ℕ-discrete}
 use native.Mathlib.Omega.{arith}
@@ -9,17 +9,16 @@ use lib.IntN.{ℤ}
 use lib.ListN.{length, getD}
 use Rattle.algebra.specs.declared.Entry.{Entry}
 use Rattle.algebra.specs.Matrix.{Matrix}
-use Rattle.algebra.specs.Width.{fitWidth}
-use Rattle.gates.specs.Gate.{Gate, Fits}
+use Rattle.gates.specs.Gate.{Gate}
 use Rattle.diagrams.specs.Diagram.{code, Store, Diagram, empty, diagram}
 use Rattle.diagrams.specs.UniqueTable.{listed}
-use Rattle.miters.specs.Run.{Lent, in-width, has-room}
+use Rattle.miters.specs.Run.{Lent, in-width}
 use Rattle.transitions.specs.declared.State.{State}
 use Rattle.transitions.specs.Plan.{Plan, plan-of}
 use Rattle.transitions.specs.State.{made, inside}
 use Rattle.transitions.specs.Next.{numbered, start}
-use Rattle.transitions.specs.Valid.{IsZero, ValidPlan, ValidState}
-use Rattle.transitions.specs.Prepare.{product-on, PlanFor}
+use Rattle.transitions.specs.Valid.{ValidPlan}
+use Rattle.transitions.specs.Prepare.{product-on}
 use Rattle.transitions.proofs.Starts.{plan-valid, start-valid, start-made, start-inside}
 use Rattle.tables.specs.Table.{slot-of}
 use Rattle.tables.proofs.Tables.{recalled-zeros}

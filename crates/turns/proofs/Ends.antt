@@ -1,6 +1,6 @@
 -- The end of a turn, from the lists that its code leaves to the store that they hold. Assumes nothing.
-use mathlib.Core.Path.{_≡_, refl, sym, ap, _∙_, subst}
-use mathlib.Core.Bool.{Bool, true, false, cond, _&&_}
+use mathlib.Core.Path.{_≡_, sym, ap, _∙_, subst}
+use mathlib.Core.Bool.{Bool, true, false, _&&_}
 use mathlib.Core.Logic.{_⊎_, inl, inr}
 use mathlib.Core.List.{List}
 use Prim.Native.Nat.{ℕ, _+_, _*_, _<_, _≤_}
@@ -8,22 +8,22 @@ use native.Mathlib.Decide.{ℕ-discrete}
 use native.Mathlib.Omega.{arith}
 use lib.Dec.{leb}
 use lib.IntN.{ℤ}
-use lib.ListN.{length, getD, set, length-set}
-use lib.Seq.{getD-set-same, getD-set-other}
+use lib.ListN.{length, getD, length-set}
+use lib.Seq.{getD-set-same}
 use borrow.Author.Tests.{eq-eqb, ne-eqb, le-leb, lt-leb}
 use Rattle.algebra.specs.declared.Entry.{Entry}
-use Rattle.diagrams.specs.Diagram.{Node, branch, unused, code, ref-of, Store, Diagram, holding, rooted, same-ref, same-node, keep, slot, put-node, make-node}
-use Rattle.diagrams.specs.UniqueTable.{node-in, nodes-in, NodesHeld, values-in, ValuesHeld}
+use Rattle.diagrams.specs.Diagram.{Node, branch, unused, code, ref-of, Store, Diagram, holding, rooted, same-node, keep, put-node}
+use Rattle.diagrams.specs.UniqueTable.{node-in, nodes-in, NodesHeld, ValuesHeld}
 use Rattle.diagrams.proofs.Chains.{length-listed}
 use Rattle.diagrams.proofs.References.{code-ref-of, ref-of-injective}
 use Rattle.diagrams.proofs.Tests.{apart-false, ref-decides, node-decides, true-both}
 use Rattle.transitions.specs.declared.State.{State}
 use Rattle.transitions.specs.Plan.{Plan, plan-of}
-use Rattle.turns.specs.Progress.{FULL, OUT, Progress, building, full, out, roomy, node-over, Finish, low-out, high-out, no-more, joined, overflows}
+use Rattle.turns.specs.Progress.{OUT, Progress, building, full, out, roomy, node-over, Finish, low-out, high-out, no-more, joined, overflows}
 use Rattle.turns.specs.Work.{Work, node-room, value-room, store-in, progress-of, Filled, Working, SameRoom}
 use Rattle.turns.specs.Turn.{JoinUnchanged, Joined, Finished}
 use Rattle.turns.proofs.Progress.{below-out}
-use Rattle.turns.proofs.Tallies.{Tally, Counted, fits, over, put-counted}
+use Rattle.turns.proofs.Tallies.{Counted, fits, over, put-counted}
 
 -- ---- how far the tally says that the walk has come
 

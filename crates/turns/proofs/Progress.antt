@@ -1,15 +1,13 @@
 -- How a turn's two walks and its node come to the walk of the state: in each way that they can end. Assumes nothing.
-use mathlib.Core.Path.{_≡_, refl, sym, ap, ap₂, _∙_, subst, subst⁻¹, subst₂}
-use mathlib.Core.Logic.{_⊎_, inl, inr}
-use mathlib.Core.Bool.{Bool, true, false, cond, _&&_}
-use mathlib.Core.List.{List, _++_}
-use Prim.Native.Nat.{ℕ, _+_, _-_, _≤_, _<_}
+use mathlib.Core.Path.{_≡_, refl, sym, ap, ap₂, _∙_, subst, subst⁻¹}
+use mathlib.Core.Bool.{Bool, true, false, _&&_}
+use Prim.Native.Nat.{ℕ, _+_, _≤_, _<_}
 use native.Mathlib.Omega.{arith}
-use borrow.Author.Tests.{leb-true, le-leb, leb-false, lt-leb}
+use borrow.Author.Tests.{leb-true, le-leb}
 use lib.Dec.{leb}
 use lib.ListN.{length, length-append}
 use Rattle.algebra.specs.declared.Entry.{Entry}
-use Rattle.diagrams.specs.Diagram.{Ref, code, ref-of, branch, Store, Diagram, rooted, make-node}
+use Rattle.diagrams.specs.Diagram.{Ref, code, ref-of, branch, Store, Diagram, make-node}
 use Rattle.diagrams.proofs.Again.{Extends, extends-trans, make-node-extends}
 use Rattle.diagrams.proofs.References.{ref-of-code}
 use Rattle.diagrams.proofs.Tests.{both-true, true-both}

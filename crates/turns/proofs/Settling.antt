@@ -1,8 +1,8 @@
 -- A state settled, from the lists that its code leaves to the store that they hold. Assumes nothing.
 use mathlib.Core.Path.{_≡_, refl, sym, ap, _∙_, subst}
-use mathlib.Core.Bool.{Bool, true, false, cond, _&&_, and-false}
+use mathlib.Core.Bool.{Bool, true, false, _&&_, and-false}
 use mathlib.Core.List.{List}
-use Prim.Native.Nat.{ℕ, _+_, _*_, _/_, _<_, _≤_}
+use Prim.Native.Nat.{ℕ, _*_, _<_}
 use native.Mathlib.Decide.{ℕ-discrete}
 use native.Mathlib.Omega.{arith}
 use lib.Dec.{leb}
@@ -10,10 +10,9 @@ use lib.ListN.{length, getD, set, length-set}
 use lib.Seq.{getD-set-same}
 use borrow.Author.Tests.{lt-leb}
 use Rattle.algebra.specs.declared.Entry.{Entry}
-use Rattle.algebra.specs.declared.Bounded.the-variants.{Within, Outside}
 use Rattle.algebra.specs.Entry.{𝟘}
 use Rattle.algebra.specs.Width.{fitWidth, entryInWidth, bounded}
-use Rattle.diagrams.specs.Diagram.{code, Store, Diagram, same-entry, keep, put-value}
+use Rattle.diagrams.specs.Diagram.{Store, Diagram, same-entry, keep, put-value}
 use Rattle.diagrams.specs.UniqueTable.{entry-in, values-in, ValuesHeld}
 use Rattle.diagrams.proofs.Chains.{length-listed}
 use Rattle.diagrams.proofs.Tests.{entry-decides}

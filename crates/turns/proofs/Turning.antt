@@ -1,5 +1,5 @@
 -- A turn of the walk, whole: what its calls ask for, and what it leaves. Assumes nothing.
-use mathlib.Core.Path.{_≡_, refl, sym, ap, _∙_, subst}
+use mathlib.Core.Path.{_≡_, refl, sym, _∙_, subst}
 use mathlib.Core.Bool.{Bool, true, false, _&&_, true≢false}
 use mathlib.Core.Logic.{_⊎_, inl, inr, _≢_}
 use mathlib.Core.List.{List}
@@ -24,7 +24,7 @@ use Rattle.transitions.proofs.Codes.{mode-turning, mode-waiting}
 use Rattle.transitions.proofs.Sound.{top-most}
 use Rattle.transitions.proofs.Needs.{usable}
 use Rattle.transitions.proofs.Walks.{next-valid, next-later, top-leaf, made-branch, inside-branch}
-use Rattle.tables.specs.Table.{unsettled, slot-of, recalled, noted, TableFits, InTable, AtSlot, AllRight}
+use Rattle.tables.specs.Table.{unsettled, slot-of, recalled, noted, InTable, AtSlot, AllRight}
 use Rattle.tables.proofs.Tables.{allRight-noted, allRight-weaken, fits-noted}
 use Rattle.turns.specs.Progress.{OUT, Progress, building, full, out, Walks, gone, Finish}
 use Rattle.turns.specs.Work.{source-in, Work, node-room, value-room, progress-of, Right, Filled, Working, SameRoom}

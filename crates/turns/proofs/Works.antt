@@ -3,16 +3,14 @@
 use mathlib.Core.Path.{_≡_, refl, sym, ap, _∙_, subst}
 use mathlib.Core.Bool.{true}
 use mathlib.Core.Logic.{_⊎_, inl, inr}
-use mathlib.Core.List.{List}
 use Prim.Native.Nat.{ℕ, _<_}
-use native.Mathlib.Omega.{arith}
 use Rattle.algebra.specs.declared.Entry.{Entry}
-use Rattle.diagrams.specs.Diagram.{branch, code, ref-of, Store, Diagram, rooted}
+use Rattle.diagrams.specs.Diagram.{branch, ref-of, Store, Diagram, rooted}
 use Rattle.diagrams.proofs.Again.{Extends, extends-refl, make-node-extends}
 use Rattle.diagrams.proofs.References.{code-ref-of, ref-of-code}
 use Rattle.transitions.specs.declared.State.{State}
 use Rattle.transitions.specs.Plan.{Plan}
-use Rattle.transitions.specs.State.{made, inside}
+use Rattle.transitions.specs.State.{made}
 use Rattle.transitions.proofs.Walks.{made-extends, made-again}
 use Rattle.turns.specs.Progress.{OUT, Progress, building, full, out, roomy, Walks, built, filled, left, still-full, left-full, gone, Finish, low-out, high-out, no-more, joined, overflows}
 use Rattle.turns.specs.Work.{Right}

@@ -10,10 +10,10 @@ use Rattle.algebra.specs.declared.Entry.{Entry}
 use Rattle.algebra.specs.declared.Bounded.{Bounded}
 use Rattle.algebra.specs.declared.Bounded.the-variants.{Within, Outside}
 use Rattle.algebra.specs.Width.{fitWidth, bounded}
-use Rattle.diagrams.specs.Diagram.{branch, ref-of, Store}
+use Rattle.diagrams.specs.Diagram.{branch, ref-of}
 use Rattle.diagrams.specs.UniqueTable.{nodes-in, NodesHeld, NodeMade, values-in, ValuesHeld, ValueMade}
 use Rattle.transitions.specs.declared.State.{State}
-use Rattle.transitions.specs.Plan.{Plan, plan-of}
+use Rattle.transitions.specs.Plan.{plan-of}
 use Rattle.transitions.specs.Source.{SourceHeld, Reading-leaf}
 use Rattle.transitions.specs.State.{top}
 use Rattle.transitions.specs.Next.{leaf-entry}

@@ -1,6 +1,6 @@
 -- `turns::join` meets its contract: past a failure nothing changes; else the node is made, and the tally follows the answer.
 -- Assumes nothing.
-use mathlib.Core.Path.{_≡_, refl, sym, ap}
+use mathlib.Core.Path.{_≡_, refl}
 use native.Mathlib.Omega.{arith}
 use borrow.Author.Needs.{needs}
 use Prim.Native.Nat.{_+_, _*_, _≤_}

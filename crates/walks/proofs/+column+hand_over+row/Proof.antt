@@ -1,6 +1,6 @@
 -- The walkers meet their contracts: a turn's places are read as the laws of turns (turns/proofs/Turning.antt) say.
 -- The measure is the number of levels left, counted so that handing over comes between two turns. Assumes nothing.
-use mathlib.Core.Path.{_≡_, refl, sym, _∙_}
+use mathlib.Core.Path.{refl, sym, _∙_}
 use mathlib.Core.Bool.{true, false}
 use mathlib.Core.List.{map}
 use Prim.Native.Nat.{ℕ, _+_, _*_, _-_, _<_}
@@ -19,7 +19,7 @@ use Rattle.transitions.proofs.is_leaf.Reads as is-leaf
 use Rattle.transitions.proofs.next.Reads as next
 use Rattle.turns.proofs.finish.Reads as finish
 use Rattle.turns.proofs.settle.Reads as settle
-use Rattle.turns.specs.Work.{source-in, work, SameRoom}
+use Rattle.turns.specs.Work.{work, SameRoom}
 use Rattle.turns.specs.Turn.{Ready, Asking, Walked}
 use Rattle.turns.proofs.Turning.{ready-place, ready-slot, ready-usable, nodes-ready, values-ready, asking-by, levels-left, asking-falls, next-falls}
 use Rattle.turns.proofs.Turning.{next-ready, recalled-walked, gone-walked, settled-walked, turned}
