@@ -8,7 +8,7 @@ use native.Mathlib.Omega.{arith}
 use lib.IntN.{ℤ, pos}
 use lib.ListN.{length, drop, set, length-set, length-append, length-map}
 use Rattle.algebra.specs.Entry.{𝟘, 𝟙}
-use Rattle.diagrams.specs.Diagram.{Ref, value, node, Node, branch, code}
+use Rattle.diagrams.specs.Diagram.{value, node, Node, branch, code}
 use Rattle.diagrams.specs.Columns.{over, NodeColumns, NodesWritten, Published}
 use Rattle.diagrams.specs.Identity.{identity-root, identity-nodes, QubitSet}
 use Rattle.diagrams.proofs.Filling.{patch-snoc}

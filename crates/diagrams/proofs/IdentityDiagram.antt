@@ -2,14 +2,14 @@
 -- Assumes nothing.
 use mathlib.Core.Path.{_≡_, refl, sym, _∙_, ap, subst}
 use mathlib.Core.Bool.{Bool, true, false}
-use mathlib.Core.List.{List, [], _∷_, _++_, append-assoc, append-nil}
+use mathlib.Core.List.{List, [], _∷_, _++_, append-assoc}
 use Prim.Native.Nat.{ℕ, zero, suc, _+_, _*_, _<_, _≤_}
 use native.Mathlib.Omega.{arith}
 use lib.ListN.{length, getD, length-append}
 use Rattle.algebra.specs.declared.Entry.{Entry}
 use Rattle.algebra.specs.Entry.{𝟘, 𝟙}
-use Rattle.algebra.specs.Matrix.{Bits, identity}
-use Rattle.diagrams.specs.Diagram.{Ref, value, node, Node, branch, unused, Store, holding, Diagram, rooted, same-ref, same-node, same-entry}
+use Rattle.algebra.specs.Matrix.{identity}
+use Rattle.diagrams.specs.Diagram.{Ref, value, node, Node, branch, unused, Store, holding, Diagram, rooted, same-node, same-entry}
 use Rattle.diagrams.specs.Diagram.{put-value, put-node, make-node, reduce, levels, entries, empty, diagram}
 use Rattle.diagrams.specs.Identity.{identity-root, identity-nodes, identity-store}
 use Rattle.diagrams.proofs.Tests.{Decides, apart-false, ref-decides, node-decides, entry-decides}

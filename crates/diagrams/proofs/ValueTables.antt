@@ -1,7 +1,7 @@
 -- Unique tables of terminals: what lent slots hold as a terminal is found or appended.
 -- Assumes nothing.
 use mathlib.Core.Path.{_≡_, refl, sym, _∙_, ap}
-use mathlib.Core.Bool.{Bool, true, false, cond, _&&_}
+use mathlib.Core.Bool.{Bool, true, false, cond}
 use mathlib.Core.List.{List, [], _∷_, _++_}
 use mathlib.Core.Logic.{_≢_}
 use Prim.Native.Nat.{ℕ, _+_, _*_, _-_, _/_, _^_, _<_, _≤_}
@@ -20,7 +20,7 @@ use mir.Val.{toZ, ofZ}
 use Rattle.algebra.specs.declared.Entry.{Entry}
 use Rattle.algebra.specs.Entry.{𝟘}
 use Rattle.diagrams.specs.Diagram.{code, Store, Diagram, same-number, same-entry, keep, put-value}
-use Rattle.diagrams.specs.UniqueTable.{full, listed, found, Put, entry-in, with-entry, values-in, value-hash, ValuesHeld, ValueMade}
+use Rattle.diagrams.specs.UniqueTable.{full, found, entry-in, with-entry, values-in, value-hash, ValuesHeld, ValueMade}
 use Rattle.diagrams.proofs.Tests.{false-apart, number-decides, entry-decides}
 use Rattle.diagrams.proofs.Keeping.{Absent}
 use Rattle.diagrams.proofs.Hashes.{value-hash-below}

@@ -3,7 +3,6 @@
 use Prim.Native.Nat.{_-_, _<_}
 use lib.ListN.{getD}
 use native.Mathlib.Omega.{arith}
-use borrow.Author.Needs.{needs}
 use Rattle.diagrams.specs.Diagram.{branch, ref-of, unused}
 use Rattle.diagrams.specs.UniqueTable.{nodes-in, node-hash}
 use Rattle.diagrams.proofs.Tests.{node-decides}
