@@ -1,4 +1,5 @@
--- Hash chains, over elements of any type and any hash: a search along one finds what `slot` finds, and how one grows.
+-- Hash chains, over elements of any type and any hash: a search along one finds what `slot` finds, what is made of its answer,
+-- and how a chain grows.
 -- Assumes nothing.
 use mathlib.Core.Path.{_≡_, refl, sym, _∙_, ap}
 use mathlib.Core.Bool.{Bool, true, false, cond}
@@ -157,30 +158,23 @@ module _ {A : Type 0} {hash : A → ℕ} {blank : A} {N heads : ℕ} (used : ℕ
   pub turn-within : (p : ℕ) → Search p → (p ≡ 0 → ⊥) → (p - 1 < used) × (used ≤ N)
   turn-within p s some = (omega (arith, s .below, length-listed used at), omega (arith, indexed .room, length-listed used at))
 
+  here : (i : ℕ) → Search (suc i) → getD (listed used at) i blank ≡ at i
+  here i s = getD-listed used at blank i (omega (arith, s .below, length-listed used at))
+
   module _ {same : A → A → Bool} (𝓓 : Decides same) where
+    tested : (i : ℕ) {t u : Bool} → t ≡ same (at (suc i - 1)) x → t ≡ u → same (at i) x ≡ u
+    tested i is e = let down : i ≡ suc i - 1 = omega arith in ap (λ (k : ℕ). same (at k) x) down ∙ sym is ∙ e
+
     pub turn-again : (p : ℕ) {t : Bool} → Search p → (p ≡ 0 → ⊥) → t ≡ same (at (p - 1)) x → t ≡ false
         → Search (getD index (p - 1) 0) × (getD index (p - 1) 0 < p)
     turn-again zero s some is e = absurd (some refl)
-    turn-again (suc i) {t} s some is e = rw down (search-steps indexed x i s (λ q. false-apart 𝓓 (at i) x other (sym here ∙ q)))
-      where
-        down : suc i - 1 ≡ i
-        down = omega arith
-
-        here : getD (listed used at) i blank ≡ at i
-        here = getD-listed used at blank i (omega (arith, s .below, length-listed used at))
-
-        other : same (at i) x ≡ false
-        other = ap (λ (k : ℕ). same (at k) x) (sym down) ∙ sym is ∙ e
+    turn-again (suc i) s some is e =
+        let down : suc i - 1 ≡ i = omega arith in
+        rw down (search-steps indexed x i s (λ q. false-apart 𝓓 (at i) x (tested i is e) (sym (here i s) ∙ q)))
 
     pub turn-found : (p : ℕ) {t : Bool} → Search p → (p ≡ 0 → ⊥) → t ≡ same (at (p - 1)) x → t ≡ true → p ≡ found same x (listed used at)
     turn-found zero s some is e = absurd (some refl)
-    turn-found (suc i) {t} s some is e = search-finds indexed x 𝓓 i s (here ∙ 𝓓 .sound (at i) x (ap (λ (k : ℕ). same (at k) x) (sym down) ∙ sym is ∙ e))
-      where
-        down : suc i - 1 ≡ i
-        down = omega arith
-
-        here : getD (listed used at) i blank ≡ at i
-        here = getD-listed used at blank i (omega (arith, s .below, length-listed used at))
+    turn-found (suc i) s some is e = search-finds indexed x 𝓓 i s (here i s ∙ 𝓓 .sound (at i) x (tested i is e))
 
     pub turns-end : (p : ℕ) → Search p → p ≡ 0 → 0 ≡ found same x (listed used at)
     turns-end p s e = search-ends indexed x 𝓓 (rw e at s)

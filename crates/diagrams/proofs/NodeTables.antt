@@ -13,7 +13,7 @@ use lib.ListN.{length, getD, set, drop, length-set, length-append}
 use lib.Seq.{getD-set-same, getD-set-other, drop-set-lt}
 use borrow.Author.Tests.{ne-eqb, eq-eqb}
 use Rattle.diagrams.specs.Diagram.{Node, branch, unused, code, ref-of, Store, Diagram, rooted, same-ref, same-node, keep, put-node, make-node}
-use Rattle.diagrams.specs.UniqueTable.{full, node-in, nodes-in, found, Put, node-hash, NodesHeld, NodesUnchanged, NodesPast, NodeMade}
+use Rattle.diagrams.specs.UniqueTable.{full, node-in, nodes-in, found, node-hash, NodesHeld, NodePut, NodeMade}
 use Rattle.diagrams.proofs.References.{code-ref-of, ref-of-injective}
 use Rattle.diagrams.proofs.Tests.{false-apart, ref-decides, node-decides}
 use Rattle.diagrams.proofs.Keeping.{Absent}
@@ -98,10 +98,7 @@ module _ {N heads : ℕ} {ns : List Node} {level low high index : List ℕ} (hel
 
   module _ (differ : lo ≡ hi → ⊥) (p : ℕ) (is : p ≡ found same-node wanted ns) where
     apart-by : {r : ℕ} {level′ low′ high′ index′ : List ℕ}
-        → Put same-node (λ i. 2 * i + 1) N wanted ns r
-        (λ ns′. NodesHeld N heads ns′ level′ low′ high′ index′ × NodesPast level low high index level′ low′ high′ index′ (length ns′))
-        (NodesUnchanged level low high index level′ low′ high′ index′)
-        → Made r level′ low′ high′ index′
+        → NodePut level low high index level′ low′ high′ index′ N heads wanted ns r → Made r level′ low′ high′ index′
     apart-by put = record { alike = λ e. absurd (differ (ref-of-injective lo hi e)); apart = λ _. put }
 
     pub made-found : (p ≡ 0 → ⊥) → Made (2 * (p - 1) + 1) level low high index
@@ -145,9 +142,7 @@ module _ {X : Type 0} {N heads : ℕ} {level low high index : List ℕ} {r : ℕ
           stored (held .indexed .room) answer (rw (same .0, same .1, same .2, same .3) held)
       by-test false e made = by-room (made .apart (false-apart ref-decides (n .low) (n .high) e)) (decLe (length (keep same-node n (s .nodes))) N)
         where
-          by-room : Put same-node (λ i. 2 * i + 1) N n (s .nodes) r
-              (λ ns′. NodesHeld N heads ns′ level′ low′ high′ index′ × NodesPast level low high index level′ low′ high′ index′ (length ns′))
-              (NodesUnchanged level low high index level′ low′ high′ index′)
+          by-room : NodePut level low high index level′ low′ high′ index′ N heads n (s .nodes) r
               → Dec (length (keep same-node n (s .nodes)) ≤ N) → NodeStored N heads (put-node n s) r level′ low′ high′ index′
           by-room put (yes fits) = let (answer, after) = put .kept fits in stored fits answer (after .0)
           by-room put (no over) = no-room (omega arith) (put .missing (omega arith) .0)

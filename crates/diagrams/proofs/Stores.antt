@@ -85,8 +85,8 @@ begins-over f xs l long room = record {
   first = take-at (map f xs) (drop (length (map f xs)) l) (length xs) (length-map xs f);
 }
 
-begins-by : {A B : Type 0} (f : A → B) {N : ℕ} (xs : List A) (l : List B) {l′ : List B} → length l ≡ N → length xs ≤ N
-    → l′ ≡ over (map f xs) l → Begins f N xs l′
+begins-by : {A B : Type 0} (f : A → B) {N : ℕ} (xs : List A) (l : List B) {l′ : List B}
+    → length l ≡ N → length xs ≤ N → l′ ≡ over (map f xs) l → Begins f N xs l′
 begins-by f xs l long room e = rw e (begins-over f xs l long room)
 
 -- a node column of a unique table begins with its nodes' numbers

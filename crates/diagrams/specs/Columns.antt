@@ -1,4 +1,5 @@
--- A store in its lent columns. Definitions only; their laws are in proofs/Columns.antt.
+-- A store in its lent columns. Definitions only; their laws are in proofs/Columns.antt, proofs/Filling.antt
+-- and proofs/Stores.antt.
 use mathlib.Core.Path.{_≡_}
 use mathlib.Core.Bool.{cond}
 use mathlib.Core.List.{List, _++_, map}

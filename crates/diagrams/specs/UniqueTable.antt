@@ -85,10 +85,15 @@ module _ (level low high index level′ low′ high′ index′ : List ℕ) wher
   abbrev pub NodesPast : ℕ → Type 0
   NodesPast k = (drop k level′ ≡ drop k level) × (drop k low′ ≡ drop k low) × (drop k high′ ≡ drop k high)
 
+  -- found or appended
+  abbrev pub NodePut : (N heads : ℕ) (n : Node) (ns : List Node) (r : ℕ) → Type 0
+  NodePut N heads n ns r =
+      Put same-node (λ i. 2 * i + 1) N n ns r (λ ns′. NodesHeld N heads ns′ level′ low′ high′ index′ × NodesPast (length ns′)) NodesUnchanged
+
+  -- "no node whose low and high are alike"
   pub record NodeMade (N heads : ℕ) (n : Node) (ns : List Node) (r : ℕ) : Type 0 where
     pub alike : n .low ≡ n .high → (r ≡ code (n .low)) × NodesUnchanged
-    pub apart : (n .low ≡ n .high → ⊥)
-        → Put same-node (λ i. 2 * i + 1) N n ns r (λ ns′. NodesHeld N heads ns′ level′ low′ high′ index′ × NodesPast (length ns′)) NodesUnchanged
+    pub apart : (n .low ≡ n .high → ⊥) → NodePut N heads n ns r
 
 -- ---- terminals
 

@@ -42,7 +42,8 @@ fn node_is(level: &[u32], low: &[u32], high: &[u32], i: usize, lv: u32, lo: u32,
     level[i] == lv
 }
 
-// 1 + the number of the node (lv, lo, hi), or 0: a search along its chain, which begins with `first`.
+// 1 + the number of the node (lv, lo, hi), or 0: a search along its chain, which begins with `first`. `heads` and `used` serve the
+// contract alone.
 fn find_node(
     level: &[u32],
     low: &[u32],
@@ -163,7 +164,8 @@ fn read_value(vals: &[i32], j: usize) -> Entry
     }
 }
 
-// 1 + the number of the terminal e, or 0: a search along its chain, which begins with `first`.
+// 1 + the number of the terminal e, or 0: a search along its chain, which begins with `first`. `heads` and `used` serve the
+// contract alone.
 fn find_value(vals: &[i32], index: &[u32], heads: u32, used: u32, first: u32, e: Entry) -> u32
     requires { ⌜ ValuesHeld (length (now vals) / 4) heads (values-in used (now vals)) (now vals) (now index) ⌝ }
     requires { ⌜ first ≡ getD (now index) (length (now vals) / 4 + value-hash heads e) 0 ⌝ }
