@@ -3,3 +3,5 @@ pub mod Slots
 pub mod Zeros
 pub mod Corners
 pub mod Turns
+pub mod Verdicts
+pub mod Starts

@@ -103,7 +103,7 @@ module _ (cols : Columns) (task : Task) (sound : Sound cols task) where
       from = subst (λ (level : ℕ). From s level (ref-of (child cols task left b r))) next-level (step b .from);
     }
 
-    behind-down : (b : Bool) → (λ l. behind cols task left r (b ∷ l)) ≡ behind cols task (left - 1) (child cols task left b r)
+    pub behind-down : (b : Bool) → (λ l. behind cols task left r (b ∷ l)) ≡ behind cols task (left - 1) (child cols task left b r)
     behind-down b = fun-ext (λ l. step b .gives l ∙ ap (λ (level : ℕ). reached 𝟘 s level (ref-of (child cols task left b r)) l) next-level)
 
     -- what is found behind the low child, or else behind the high one
@@ -132,12 +132,12 @@ module _ (cols : Columns) (task : Task) (sound : Sound cols task) where
 
   -- ---- where the search ends
 
-  value-behind : {left r : ℕ} → Standing cols task left r → (r % 2 ≡ 1 → ⊥) → (l : Bits) → behind cols task left r l ≡ value-at cols (r / 2)
+  pub value-behind : {left r : ℕ} → Standing cols task left r → (r % 2 ≡ 1 → ⊥) → (l : Bits) → behind cols task left r l ≡ value-at cols (r / 2)
   value-behind {left} {r} at even l =
       value-gives (task .nodes) (task .values) (levels (sound .qubits)) cols (held .tidy) (held .closed) (task .levels - left) r l even
       (value-seen (task .nodes) (task .values) r (at .seen) even)
 
-  at-end : {left r : ℕ} → Standing cols task left r → left ≡ 0 → r % 2 ≡ 1 → ⊥
+  pub at-end : {left r : ℕ} → Standing cols task left r → left ≡ 0 → r % 2 ≡ 1 → ⊥
   at-end {left} {r} at e = value-last (task .nodes) (task .values) (levels (sound .qubits)) cols (held .tidy) (held .closed) r (at .seen)
       (subst (λ (level : ℕ). From s level (ref-of r)) last (at .from))
     where

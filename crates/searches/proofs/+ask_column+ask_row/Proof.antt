@@ -148,9 +148,11 @@ module _ (t : ℕ) where
       let f = n .before .before in
       let l = f .before in
       let i = l .before .before in
-      let e = row-some i in
-      (omega (arith, e .pre .0, i .if2 .left), high-column-asked (e .pre .1) (i .if2 .left) (l .look .ensures .0) (l .look .ensures .1) (f .ask-column .ensures)
-      (n .enum-told .given .1) (c .look2 .ensures .0))
+      let e = row-some i in (
+        omega (arith, e .pre .0, i .if2 .left),
+        high-column-asked (e .pre .1) (i .if2 .left) (l .look .ensures .0) (l .look .ensures .1) (f .ask-column .ensures)
+            (n .enum-told .given .1) (c .look2 .ensures .0),
+      )
 
   row-returns-4 : row-lts.Need-returns-4 row-calls (row-at t) row.Post
   row-returns-4 c =
