@@ -6,3 +6,12 @@ pub mod Exists
 pub mod Places
 pub mod Diagrams
 pub mod Columns
+pub mod References
+pub mod Chains
+pub mod Hashes
+pub mod NodeTables
+pub mod ValueTables
+pub mod Filling
+pub mod EmptyTables
+pub mod Zeros
+pub mod Stores

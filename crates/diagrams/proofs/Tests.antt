@@ -90,6 +90,9 @@ same-number-reflexive : (m : ℤ) → same-number m m ≡ true
 same-number-reflexive (pos m) = eq-eqb m m refl
 same-number-reflexive (negsuc m) = eq-eqb m m refl
 
+pub number-decides : Decides same-number
+number-decides = record { sound = same-number-sound; reflexive = same-number-reflexive }
+
 same-entry-sound : (x y : Entry) → same-entry x y ≡ true → x ≡ y
 same-entry-sound x y e =
     let (ab, cd) = both-true (same-number (x .a) (y .a) && same-number (x .b) (y .b)) (same-number (x .c) (y .c) && same-number (x .d) (y .d)) e in

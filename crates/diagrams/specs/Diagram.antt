@@ -2,7 +2,7 @@
 use mathlib.Core.Path.{_≡_}
 use mathlib.Core.Bool.{Bool, true, false, cond, _&&_}
 use mathlib.Core.List.{List, [], _∷_}
-use Prim.Native.Nat.{ℕ, zero, suc, _+_, _*_, _<_, _≤_}
+use Prim.Native.Nat.{ℕ, zero, suc, _+_, _*_, _/_, _%_, _<_, _≤_}
 use lib.Dec.{eqb}
 use lib.IntN.{ℤ, pos, negsuc}
 use lib.ListN.{length, getD}
@@ -18,6 +18,9 @@ pub data Ref : Type 0 where
 abbrev pub code : Ref → ℕ
 code (value j) = 2 * j
 code (node i) = 2 * i + 1
+
+abbrev pub ref-of : ℕ → Ref
+ref-of c = cond (eqb (c % 2) 1) (node (c / 2)) (value (c / 2))
 
 pub record Node : Type 0 where
   pub level : ℕ

@@ -1,2 +1,3 @@
 pub mod Diagram
 pub mod Columns
+pub mod UniqueTable

@@ -7,15 +7,11 @@ use Rattle.algebra.specs.Entry.{𝟘, _⊕_, _⊖_, turned}
 use Rattle.algebra.specs.Matrix.{Bits, everywhere}
 use Rattle.algebra.specs.Width.{entryInWidth}
 use Rattle.gates.specs.Rule.{all-set, acted}
-use Rattle.diagrams.specs.Diagram.{Ref, value, node, Store, Diagram, node-at, reached, same-entry, reduce}
+use Rattle.diagrams.specs.Diagram.{Ref, value, node, ref-of, Store, Diagram, node-at, reached, same-entry, reduce}
 use Rattle.transitions.specs.declared.State.{State}
 use Rattle.transitions.specs.Plan.{Plan, plan-rule, control}
 
 -- ---- a state's numbers
-
--- "A reference 2·j is value j; 2·i + 1 is node i."
-abbrev pub ref-of : ℕ → Ref
-ref-of c = cond (eqb (c % 2) 1) (node (c / 2)) (value (c / 2))
 
 -- what is made of the references: x times w8 to the power e; x + y; x − y; the gate still to act on x, from stage k on;
 -- y times w8 to the power e if every control from stage k on is 1, else x
