@@ -1,41 +1,24 @@
 -- The store in the first slots of lent columns, and one step down in it.
 -- Assumes nothing.
-use mathlib.Core.Path.{_≡_, refl, sym, _∙_, ap, subst, subst₂}
+use mathlib.Core.Path.{_≡_, refl, sym, _∙_, ap, subst}
 use mathlib.Core.Bool.{Bool, true, false, cond}
-use mathlib.Core.List.{List, [], _∷_, _++_}
-use mathlib.Core.Logic.{⊎-elim}
-use Prim.Native.Nat.{ℕ, zero, suc, _+_, _/_, _%_, _<_, _≤_}
-use native.Mathlib.Nat.{eq-or-lt-of-le}
-use native.Mathlib.Numerals.{add-one}
+use mathlib.Core.List.{List, [], _∷_}
+use Prim.Native.Nat.{ℕ, suc, _*_, _/_, _%_, _<_, _≤_}
 use native.Mathlib.Omega.{arith}
-use lib.ListN.{length, getD, length-append, List·getD-append}
-use lib.Seq.{getD-at}
-use lib.Dec.{eqb}
-use borrow.Author.Tests.{eqb-true, eqb-false, eq-eqb, ne-eqb}
+use lib.ListN.{length, getD}
+use lib.Dec.{eqb, ltb}
+use borrow.Author.Tests.{eqb-true, eqb-false, eq-eqb, ne-eqb, lt-ltb, le-ltb}
 use Rattle.algebra.specs.declared.Entry.{Entry}
 use Rattle.algebra.specs.Entry.{𝟘}
 use Rattle.algebra.specs.Matrix.{Bits}
-use Rattle.diagrams.specs.Diagram.{Ref, value, node, Node, Store, unused, node-at, reached, Both, From, Tidy}
-use Rattle.diagrams.specs.Columns.{Columns}
+use Rattle.diagrams.specs.Diagram.{Ref, value, node, ref-of, Node, Store, unused, node-at, reached, Both, From, Tidy, slot, same-entry}
+use Rattle.diagrams.specs.Columns.{Columns, entry-of, zero-ref}
+use Rattle.diagrams.specs.UniqueTable.{full, node-in}
+use Rattle.diagrams.proofs.Tests.{entry-decides}
+use Rattle.diagrams.proofs.Keeping.{Kept, found, fresh, kept}
 use Rattle.diagrams.proofs.Unique.{Seen, Closed}
-use Rattle.searches.specs.Slots.{ref-of, listed, node-in, entry-in, store-in, cofactor}
-
--- ---- what the first slots hold
-
-module _ {A : Type 0} where
-  length-listed : (n : ℕ) (f : ℕ → A) → length (listed n f) ≡ n
-  unfolding listed
-  length-listed zero f = refl
-  length-listed (suc n) f = length-append (listed n f) (f n ∷ []) ∙ ap (λ (k : ℕ). k + 1) (length-listed n f) ∙ add-one n
-
-  getD-listed : (n : ℕ) (f : ℕ → A) (blank : A) (i : ℕ) → i < n → getD (listed n f) i blank ≡ f i
-  unfolding listed
-  getD-listed zero f blank i h = absurd (omega arith)
-  getD-listed (suc n) f blank i h =
-      ⊎-elim
-      (λ (e : i ≡ n). getD-at (listed n f) (f n) [] blank i (length-listed n f ∙ sym e) ∙ ap f (sym e))
-      (λ (k : i < n). List·getD-append (listed n f) (f n ∷ []) blank i (omega (arith, length-listed n f)) ∙ getD-listed n f blank i k)
-      (eq-or-lt-of-le (omega arith))
+use Rattle.diagrams.proofs.Chains.{length-listed, getD-listed}
+use Rattle.searches.specs.Slots.{store-in, value-at, cofactor}
 
 -- ---- references
 
@@ -52,6 +35,12 @@ module _ (nodes values r : ℕ) (seen : Seen (ref-of r) nodes values) where
 
   pub value-seen : (r % 2 ≡ 1 → ⊥) → r / 2 < values
   value-seen even = subst (λ (x : Ref). Seen x nodes values) (ref-value r even) seen
+
+-- no column holds the reference that stands for none
+pub unseen : (r nodes values : ℕ) → nodes ≤ 65536 → Seen (ref-of r) nodes values → r ≡ full → ⊥
+unseen r nodes values few seen e =
+    let h : 2147483647 < nodes = node-seen nodes values full (subst (λ (k : ℕ). Seen (ref-of k) nodes values) e seen) refl in
+    omega arith
 
 -- ---- one step down
 
@@ -92,8 +81,8 @@ module _ (nodes values levels : ℕ) (cols : Columns) (𝓣 : Tidy 𝟘 levels (
   node-is : (i : ℕ) → i < nodes → node-at s i ≡ node-in (cols .level) (cols .low) (cols .high) i
   node-is i h = getD-listed nodes (node-in (cols .level) (cols .low) (cols .high)) unused i h
 
-  pub value-is : (j : ℕ) → j < values → getD (s .values) j 𝟘 ≡ entry-in (cols .a) (cols .b) (cols .c) (cols .d) j
-  value-is j h = getD-listed values (entry-in (cols .a) (cols .b) (cols .c) (cols .d)) 𝟘 j h
+  value-is : (j : ℕ) → j < values → getD (s .values) j 𝟘 ≡ value-at cols j
+  value-is j h = getD-listed values (value-at cols) 𝟘 j h
 
   stepped-value : (level : ℕ) (b : Bool) (j : ℕ) → j < values → Stepped s nodes values level b (value j) (value j)
   stepped-value level b j h = record { gives = λ l. refl; seen = h; from = tt }
@@ -165,16 +154,52 @@ module _ (nodes values levels : ℕ) (cols : Columns) (𝓣 : Tidy 𝟘 levels (
 
   -- a value gives itself, whatever the bits
   pub value-gives : (level r : ℕ) (l : Bits) → (r % 2 ≡ 1 → ⊥) → r / 2 < values
-      → reached 𝟘 s level (ref-of r) l ≡ entry-in (cols .a) (cols .b) (cols .c) (cols .d) (r / 2)
+      → reached 𝟘 s level (ref-of r) l ≡ value-at cols (r / 2)
   value-gives level r l even h = ap (λ (x : Ref). reached 𝟘 s level x l) (ref-value r even) ∙ everywhere l level
     where
-      everywhere : (l : Bits) (level : ℕ) → reached 𝟘 s level (value (r / 2)) l ≡ entry-in (cols .a) (cols .b) (cols .c) (cols .d) (r / 2)
+      everywhere : (l : Bits) (level : ℕ) → reached 𝟘 s level (value (r / 2)) l ≡ value-at cols (r / 2)
       everywhere [] level = value-is (r / 2) h
       everywhere (b ∷ l) level = everywhere l (suc level)
 
   -- "no value twice"
-  pub values-apart : (i j : ℕ) → i < values → j < values
-      → entry-in (cols .a) (cols .b) (cols .c) (cols .d) i ≡ entry-in (cols .a) (cols .b) (cols .c) (cols .d) j → i ≡ j
+  pub values-apart : (i j : ℕ) → i < values → j < values → value-at cols i ≡ value-at cols j → i ≡ j
   values-apart i j p q e =
-      let len = length-listed values (entry-in (cols .a) (cols .b) (cols .c) (cols .d)) in
+      let len = length-listed values (value-at cols) in
       𝓣 .no-value-twice i j (omega (arith, len)) (omega (arith, len)) (value-is i p ∙ e ∙ sym (value-is j q))
+
+  -- ---- the zero terminal
+
+  -- the slot of zero, or none
+  data Zero : ℕ → Type 0 where
+    slot-of : (j : ℕ) → j < values → value-at cols j ≡ 𝟘 → Zero (2 * j)
+    nowhere : ((j : ℕ) → j < values → value-at cols j ≡ 𝟘 → ⊥) → Zero full
+
+  zero-found : Zero (zero-ref (s .values))
+  zero-found = by-kept (kept entry-decides 𝟘 𝟘 (s .values))
+    where
+      len : length (s .values) ≡ values
+      len = length-listed values (value-at cols)
+
+      by-kept : Kept same-entry 𝟘 𝟘 (s .values) → Zero (zero-ref (s .values))
+      by-kept (found j h g (p, q)) =
+          let below : j < values = omega (arith, len) in
+          rw (q, lt-ltb j (length (s .values)) h) (slot-of j below (sym (value-is j below) ∙ g))
+      by-kept (fresh absent (p, q)) =
+          rw (q, le-ltb (length (s .values)) (length (s .values)) (omega arith))
+          (nowhere (λ j h e. absent j (omega (arith, len)) (value-is j h ∙ e)))
+
+  pub zero-gives : (r : ℕ) → nodes ≤ 65536 → Seen (ref-of r) nodes values → r ≡ zero-ref (s .values) → (r % 2 ≡ 1 → ⊥) × (value-at cols (r / 2) ≡ 𝟘)
+  zero-gives r few seen = by-zero zero-found
+    where
+      by-zero : {z : ℕ} → Zero z → r ≡ z → (r % 2 ≡ 1 → ⊥) × (value-at cols (r / 2) ≡ 𝟘)
+      by-zero (slot-of j h is) e =
+          let half : r / 2 ≡ j = omega arith in
+          ((λ odd. omega arith), ap (value-at cols) half ∙ is)
+      by-zero (nowhere none) e = absurd (unseen r nodes values few seen e)
+
+  pub zero-only : (j : ℕ) → j < values → value-at cols j ≡ 𝟘 → 2 * j ≡ zero-ref (s .values)
+  zero-only j h is = by-zero zero-found
+    where
+      by-zero : {z : ℕ} → Zero z → 2 * j ≡ z
+      by-zero (slot-of i below here) = ap (λ (k : ℕ). 2 * k) (values-apart j i h below (is ∙ sym here))
+      by-zero (nowhere none) = absurd (none j h is)

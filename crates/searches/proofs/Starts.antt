@@ -10,8 +10,8 @@ use lib.ListN.{replicate}
 use Rattle.algebra.specs.declared.Entry.{Entry}
 use Rattle.algebra.specs.Entry.{𝟘}
 use Rattle.algebra.specs.Matrix.{Bits, Matrix}
-use Rattle.diagrams.specs.Diagram.{Ref, node, Store, reached, From, levels}
-use Rattle.diagrams.specs.Columns.{Columns}
+use Rattle.diagrams.specs.Diagram.{Ref, node, ref-of, reached, From, levels}
+use Rattle.diagrams.specs.Columns.{Columns, ValueColumns, zero-ref}
 use Rattle.diagrams.proofs.Places.{levels-double}
 use Rattle.diagrams.proofs.Unique.{Seen}
 use Rattle.miters.specs.declared.Verdict.{Verdict}
@@ -20,9 +20,9 @@ use Rattle.miters.specs.Report.{verdict}
 use Rattle.searches.specs.declared.Found.{Found}
 use Rattle.searches.specs.declared.Found.the-variants.{At}
 use Rattle.searches.specs.declared.Task.{Task}
-use Rattle.searches.specs.Slots.{ref-of, store-in, leftmost}
-use Rattle.searches.specs.Search.{given, sought, behind, child, value-at, row-sought}
-use Rattle.searches.specs.Ready.{InValues, Descends, Searchable, Standing, Sound, Cornered, Row-ready}
+use Rattle.searches.specs.Slots.{store-in, value-at, leftmost}
+use Rattle.searches.specs.Search.{given, sought, behind, child, row-sought}
+use Rattle.searches.specs.Ready.{Descends, Searchable, Standing, Sound, Row-ready}
 use Rattle.searches.proofs.Slots.{ref-node, value-seen}
 use Rattle.searches.proofs.Turns.{nodes-there, value-there, standing-down, behind-down, value-behind, at-end}
 use Rattle.searches.proofs.Verdicts.{place-corner, answered, sought-verdict}
@@ -77,44 +77,45 @@ module _ (n nodes values : ℕ) (cols : Columns) (held : Searchable n nodes valu
   abbrev corner-reference : ℕ
   corner-reference = leftmost (cols .level) (cols .low) (cols .high) (2 * n) 0 root
 
-  abbrev task : ℕ → Task
-  task corner = record { nodes = nodes; values = values; levels = 2 * n; corner = corner }
-
-  sound : (corner : ℕ) → Sound cols (task corner)
-  sound corner = record { qubits = n; levels-are = sym (levels-double n); searchable = held }
-
   root-is : ref-of root ≡ node (nodes - 1)
   root-is = ref-node root (omega arith) ∙ ap node (omega arith)
 
-  root-stands : (corner : ℕ) → Standing cols (task corner) (2 * n) root
-  root-stands corner = record {
-    within = omega arith;
-    seen = subst (λ (x : Ref). Seen x nodes values) (sym root-is) (omega (arith, held .some-node));
-    from = subst (From (store-in nodes values cols) (2 * n - 2 * n)) (sym root-is) (omega arith);
-  }
+  abbrev task : ℕ → ℕ → Task
+  task c z = record { nodes = nodes; values = values; levels = 2 * n; corner = c; zero = z }
 
-  root-way : (corner : ℕ) → Way cols (task corner) (sound corner) (2 * n) 0 root
-  root-way corner = way cols (task corner) (sound corner) (2 * n) 0 root (omega arith) (root-stands corner)
+  module _ (c z : ℕ) where
+    sound : Sound cols (task c z)
+    sound = record { qubits = n; levels-are = sym (levels-double n); searchable = held }
+
+    root-stands : Standing cols (task c z) (2 * n) root
+    root-stands = record {
+      within = omega arith;
+      seen = subst (λ (x : Ref). Seen x nodes values) (sym root-is) (omega (arith, held .some-node));
+      from = subst (From (store-in nodes values cols) (2 * n - 2 * n)) (sym root-is) (omega arith);
+    }
+
+    root-way : Way cols (task c z) sound (2 * n) 0 root
+    root-way = way cols (task c z) sound (2 * n) 0 root (omega arith) root-stands
 
   pub root-descends : Descends (cols .level) (cols .low) (cols .high) (2 * n) 0 root
-  root-descends = root-way 0 .descends
+  root-descends = root-way 0 0 .descends
 
-  module _ (c : ℕ) (c-is : c ≡ corner-reference) where
-    corner-stands : Standing cols (task c) 0 c
-    corner-stands = subst (Standing cols (task c) 0) (sym c-is) (root-way c .stands)
+  module _ {c z : ℕ} (c-is : c ≡ corner-reference) (z-is : z ≡ zero-ref (store-in nodes values cols .values)) where
+    corner-stands : Standing cols (task c z) 0 c
+    corner-stands = subst (Standing cols (task c z) 0) (sym c-is) (root-way c z .stands)
 
-    corner-value : c % 2 ≡ 1 → ⊥
-    corner-value = at-end cols (task c) (sound c) corner-stands refl
+    corner-even : c % 2 ≡ 1 → ⊥
+    corner-even = at-end cols (task c z) (sound c z) corner-stands refl
 
-    pub corner-there : InValues (cols .a) (cols .b) (cols .c) (cols .d) (c / 2)
-    corner-there = value-there cols (task c) (sound c) corner-stands corner-value
+    pub corner-there : ValueColumns (cols .a) (cols .b) (cols .c) (cols .d) (c / 2 + 1)
+    corner-there = value-there cols (task c z) (sound c z) corner-stands corner-even
 
-    pub root-ready : Row-ready cols (task c) (2 * n) root 0 0
+    pub root-ready : Row-ready cols (task c z) (2 * n) root 0 0
     root-ready = record {
       ready = record {
-        sound = sound c;
-        cornered = record { is-value = corner-value; used = value-seen nodes values c (corner-stands .seen) corner-value };
-        standing = root-stands c;
+        sound = sound c z;
+        terminals = record { corner-even = corner-even; corner-used = value-seen nodes values c (corner-stands .seen) corner-even; zero-is = z-is };
+        standing = root-stands c z;
         row-room = room;
         column-room = room;
       };
@@ -131,7 +132,7 @@ module _ (n nodes values : ℕ) (cols : Columns) (held : Searchable n nodes valu
     abbrev f : Bits → Entry
     f = reached 𝟘 (store-in nodes values cols) 0 (node (nodes - 1))
 
-    behind-root : behind cols (task c) (2 * n) root ≡ f
+    behind-root : behind cols (task c z) (2 * n) root ≡ f
     behind-root = ap₂ (λ (level : ℕ) (x : Ref). reached 𝟘 (store-in nodes values cols) level x) none root-is
       where
         none : 2 * n - 2 * n ≡ 0
@@ -139,21 +140,21 @@ module _ (n nodes values : ℕ) (cols : Columns) (held : Searchable n nodes valu
 
     corner-is : value-at cols (c / 2) ≡ corner n M
     corner-is =
-        value-at cols (c / 2) ≡⟨ sym (value-behind cols (task c) (sound c) corner-stands corner-value []) ⟩
-        behind cols (task c) 0 c [] ≡⟨ ap (λ (r : ℕ). behind cols (task c) 0 r []) c-is ⟩
-        behind cols (task c) 0 corner-reference [] ≡⟨ sym (root-way c .gives) ⟩
-        behind cols (task c) (2 * n) root (replicate (2 * n) false) ≡⟨ ap (λ (g : Bits → Entry). g (replicate (2 * n) false)) behind-root ⟩
+        value-at cols (c / 2) ≡⟨ sym (value-behind cols (task c z) (sound c z) corner-stands corner-even []) ⟩
+        behind cols (task c z) 0 c [] ≡⟨ ap (λ (r : ℕ). behind cols (task c z) 0 r []) c-is ⟩
+        behind cols (task c z) 0 corner-reference [] ≡⟨ sym (root-way c z .gives) ⟩
+        behind cols (task c z) (2 * n) root (replicate (2 * n) false) ≡⟨ ap (λ (g : Bits → Entry). g (replicate (2 * n) false)) behind-root ⟩
         f (replicate (2 * n) false) ≡⟨ ap (λ (k : ℕ). f (replicate k false)) (sym (levels-double n)) ⟩
         f (replicate (levels n) false) ≡⟨ ap f (sym (place-corner n)) ⟩
         corner n M ∎
 
     -- the factor, or the place that the search found with it
-    pub found-verdict : {found told : Found} {factor : Entry} → found ≡ row-sought cols (task c) (2 * n) root 0 0 → found ≡ told
+    pub found-verdict : {found told : Found} {factor : Entry} → found ≡ row-sought cols (task c z) (2 * n) root 0 0 → found ≡ told
         → factor ≡ value-at cols (c / 2) → answered factor told ≡ verdict n M
     found-verdict {told = told} {factor = factor} found-is told-is factor-is =
         answered factor told ≡⟨ ap₂ answered (factor-is ∙ corner-is) (sym told-is ∙ found-is ∙ from-root) ⟩
         answered (corner n M) (sought At (corner n M) (levels n) f 0 0) ≡⟨ sought-verdict n f ⟩
         verdict n M ∎
       where
-        from-root : row-sought cols (task c) (2 * n) root 0 0 ≡ sought At (corner n M) (levels n) f 0 0
+        from-root : row-sought cols (task c z) (2 * n) root 0 0 ≡ sought At (corner n M) (levels n) f 0 0
         from-root = λ i. sought At (corner-is i) (sym (levels-double n) i) (behind-root i) 0 0

@@ -14,19 +14,18 @@ use borrow.Author.Tests.{eqb-true, eqb-false, eq-eqb}
 use Rattle.algebra.specs.declared.Entry.{Entry}
 use Rattle.algebra.specs.Entry.{𝟘}
 use Rattle.algebra.specs.Matrix.{Bits}
-use Rattle.diagrams.specs.Diagram.{Ref, Store, reached, From, same-entry, levels}
-use Rattle.diagrams.specs.Columns.{Columns}
-use Rattle.diagrams.proofs.Tests.{entry-decides, false-apart}
+use Rattle.diagrams.specs.Diagram.{ref-of, Store, reached, From, levels}
+use Rattle.diagrams.specs.Columns.{Columns, ValueColumns}
+use Rattle.diagrams.specs.UniqueTable.{full}
 use Rattle.diagrams.proofs.Places.{levels-double}
-use Rattle.diagrams.proofs.Unique.{Seen}
 use Rattle.searches.specs.declared.Found.{Found}
 use Rattle.searches.specs.declared.Found.the-variants.{Nowhere, At}
 use Rattle.searches.specs.declared.Task.{Task}
-use Rattle.searches.specs.Slots.{ref-of, store-in, cofactor}
-use Rattle.searches.specs.Search.{sought, behind, child, value-at, corner-at, row-sought, column-sought, is-settled}
-use Rattle.searches.specs.Ready.{InNodes, InValues, Value-there, Descends, Searchable, Standing, Room, Sound, Cornered, Ready, Row-ready, Column-ready}
+use Rattle.searches.specs.Slots.{store-in, value-at, cofactor}
+use Rattle.searches.specs.Search.{sought, behind, child, corner-at, row-sought, column-sought, is-settled}
+use Rattle.searches.specs.Ready.{InNodes, Searchable, Standing, Room, Sound, Terminals, Ready, Row-ready, Column-ready}
 use Rattle.searches.proofs.Blocks.{eqb-iff, first-of, Ends, sought-cons, first-nowhere, nowhere-again, zero-nowhere, alike-nowhere, unlike-found}
-use Rattle.searches.proofs.Slots.{Stepped, stepped, value-last, value-seen, node-seen, value-gives, values-apart}
+use Rattle.searches.proofs.Slots.{node-seen, value-seen, unseen, Stepped, stepped, value-last, value-gives, values-apart, zero-gives, zero-only}
 
 -- ---- room
 
@@ -69,22 +68,22 @@ module _ (cols : Columns) (task : Task) (sound : Sound cols task) where
 
   pub nodes-there : {left r : ℕ} → Standing cols task left r → InNodes (cols .level) (cols .low) (cols .high) r
   nodes-there {r = r} at = record {
-    in-level = λ odd. omega (arith, slot odd, held .level-long);
-    in-low = λ odd. omega (arith, slot odd, held .low-long);
-    in-high = λ odd. omega (arith, slot odd, held .high-long);
+    in-level = λ odd. omega (arith, slot odd, held .node-columns);
+    in-low = λ odd. omega (arith, slot odd, held .node-columns);
+    in-high = λ odd. omega (arith, slot odd, held .node-columns);
   }
     where
       slot : r % 2 ≡ 1 → r / 2 < task .nodes
       slot odd = node-seen (task .nodes) (task .values) r (at .seen) odd
 
-  pub value-there : {left r : ℕ} → Standing cols task left r → Value-there (cols .a) (cols .b) (cols .c) (cols .d) r
+  pub value-there : {left r : ℕ} → Standing cols task left r → (r % 2 ≡ 1 → ⊥) → ValueColumns (cols .a) (cols .b) (cols .c) (cols .d) (r / 2 + 1)
   value-there {r = r} at even =
       let slot : r / 2 < task .values = value-seen (task .nodes) (task .values) r (at .seen) even in
       record {
-        in-a = omega (arith, held .a-long);
-        in-b = omega (arith, held .b-long);
-        in-c = omega (arith, held .c-long);
-        in-d = omega (arith, held .d-long);
+        in-a = omega (arith, held .value-columns);
+        in-b = omega (arith, held .value-columns);
+        in-c = omega (arith, held .value-columns);
+        in-d = omega (arith, held .value-columns);
       }
 
   -- ---- one level down
@@ -144,8 +143,8 @@ module _ (cols : Columns) (task : Task) (sound : Sound cols task) where
       last : task .levels - left ≡ levels (sound .qubits)
       last = omega (arith, sound .levels-are)
 
-  module _ {left r : ℕ} (row column : ℕ) (cornered : Cornered task) (at : Standing cols task left r) where
-    settled-nowhere : (q : ℕ) → left ≡ levels q → is-settled (value-at cols) task left r row column ≡ true → row-sought cols task left r row column ≡ Nowhere
+  module _ {left r : ℕ} (row column : ℕ) (𝓣 : Terminals cols task) (at : Standing cols task left r) where
+    settled-nowhere : (q : ℕ) → left ≡ levels q → is-settled task left r row column ≡ true → row-sought cols task left r row column ≡ Nowhere
     settled-nowhere q whole = by-diagonal (eqb row column) refl
       where
         found : ℕ → Found
@@ -154,25 +153,25 @@ module _ (cols : Columns) (task : Task) (sound : Sound cols task) where
         on : (t : Bool) → eqb left 0 ≡ t → eqb row column ≡ true → cond t (eqb r (task .corner)) false ≡ true → found left ≡ Nowhere
         on true none agree e =
             let is : r ≡ task .corner = eqb-true r (task .corner) e in
-            let even : r % 2 ≡ 1 → ⊥ = λ odd. cornered .is-value (ap (λ (k : ℕ). k % 2) (sym is) ∙ odd) in
+            let even : r % 2 ≡ 1 → ⊥ = λ odd. 𝓣 .corner-even (ap (λ (k : ℕ). k % 2) (sym is) ∙ odd) in
             ap found (eqb-true left 0 none) ∙ alike-nowhere (corner-at cols task) (behind cols task left r) row column
             (value-behind at even [] ∙ ap (λ (k : ℕ). value-at cols (k / 2)) is
             ∙ ap (λ (t : Bool). cond t (corner-at cols task) 𝟘) (sym agree))
         on false more agree e = absurd (true≢false (sym e))
 
-        off : (t : Bool) → eqb (r % 2) 1 ≡ t → eqb row column ≡ false → cond t false (same-entry (value-at cols (r / 2)) 𝟘) ≡ true → found left ≡ Nowhere
-        off true odd apart e = absurd (true≢false (sym e))
-        off false even apart e =
-            ap found whole ∙ zero-nowhere (corner-at cols task) q (behind cols task left r) row column apart
-            (λ l. value-behind at (eqb-false (r % 2) 1 even) l ∙ entry-decides .sound (value-at cols (r / 2)) 𝟘 e)
+        off : eqb row column ≡ false → eqb r (task .zero) ≡ true → found left ≡ Nowhere
+        off apart e =
+            let zero = zero-gives (task .nodes) (task .values) (levels (sound .qubits)) cols (held .tidy) (held .closed) r (held .few-nodes) (at .seen)
+            (eqb-true r (task .zero) e ∙ 𝓣 .zero-is) in
+            ap found whole ∙ zero-nowhere (corner-at cols task) q (behind cols task left r) row column apart (λ l. value-behind at (zero .0) l ∙ zero .1)
 
         by-diagonal : (t : Bool) → eqb row column ≡ t
-            → cond t (cond (eqb left 0) (eqb r (task .corner)) false) (cond (eqb (r % 2) 1) false (same-entry (value-at cols (r / 2)) 𝟘)) ≡ true
+            → cond t (cond (eqb left 0) (eqb r (task .corner)) false) (eqb r (task .zero)) ≡ true
             → found left ≡ Nowhere
         by-diagonal true agree e = on (eqb left 0) refl agree e
-        by-diagonal false apart e = off (eqb (r % 2) 1) refl apart e
+        by-diagonal false apart e = off apart e
 
-    unsettled-found : left ≡ 0 → is-settled (value-at cols) task left r row column ≡ false
+    unsettled-found : left ≡ 0 → is-settled task left r row column ≡ false
         → row-sought cols task left r row column ≡ At row column (value-at cols (r / 2))
     unsettled-found none unsettled =
         ap (λ (k : ℕ). sought At (corner-at cols task) k (behind cols task left r) row column) none
@@ -188,22 +187,28 @@ module _ (cols : Columns) (task : Task) (sound : Sound cols task) where
         on : eqb left 0 ≡ true → cond (eqb left 0) (eqb r (task .corner)) false ≡ false → value-at cols (r / 2) ≡ corner-at cols task → ⊥
         on zero-left unequal e = eqb-false r (task .corner)
             (sym (ap (λ (t : Bool). cond t (eqb r (task .corner)) false) zero-left) ∙ unequal)
-            (halved r (task .corner) even (cornered .is-value)
+            (halved r (task .corner) even (𝓣 .corner-even)
             (values-apart (task .nodes) (task .values) (levels (sound .qubits)) cols (held .tidy) (held .closed) (r / 2) (task .corner / 2)
-            (value-seen (task .nodes) (task .values) r (at .seen) even) (cornered .used) e))
+            (value-seen (task .nodes) (task .values) r (at .seen) even) (𝓣 .corner-used) e))
           where
             halved : (m n : ℕ) → (m % 2 ≡ 1 → ⊥) → (n % 2 ≡ 1 → ⊥) → m / 2 ≡ n / 2 → m ≡ n
             halved m n p q e = omega arith
 
-        off : (t : Bool) → eqb (r % 2) 1 ≡ t → cond t false (same-entry (value-at cols (r / 2)) 𝟘) ≡ false → value-at cols (r / 2) ≡ 𝟘 → ⊥
-        off true odd unequal e = even (eqb-true (r % 2) 1 odd)
-        off false _ unequal e = false-apart entry-decides (value-at cols (r / 2)) 𝟘 unequal e
+        off : eqb r (task .zero) ≡ false → value-at cols (r / 2) ≡ 𝟘 → ⊥
+        off unequal e = eqb-false r (task .zero) unequal
+            (doubled-half r even
+            ∙ zero-only (task .nodes) (task .values) (levels (sound .qubits)) cols (held .tidy) (held .closed) (r / 2)
+            (value-seen (task .nodes) (task .values) r (at .seen) even) e
+            ∙ sym (𝓣 .zero-is))
+          where
+            doubled-half : (m : ℕ) → (m % 2 ≡ 1 → ⊥) → m ≡ 2 * (m / 2)
+            doubled-half m h = omega arith
 
         by-diagonal : (t : Bool) → eqb row column ≡ t
-            → cond t (cond (eqb left 0) (eqb r (task .corner)) false) (cond (eqb (r % 2) 1) false (same-entry (value-at cols (r / 2)) 𝟘)) ≡ false
+            → cond t (cond (eqb left 0) (eqb r (task .corner)) false) (eqb r (task .zero)) ≡ false
             → value-at cols (r / 2) ≡ cond t (corner-at cols task) 𝟘 → ⊥
         by-diagonal true agree unequal e = on (eq-eqb left 0 none) unequal e
-        by-diagonal false apart unequal e = off (eqb (r % 2) 1) refl unequal e
+        by-diagonal false apart unequal e = off unequal e
 
 -- ---- what is found first
 
@@ -225,7 +230,7 @@ module _ {cols : Columns} {task : Task} {left r clean row column : ℕ} (at : Co
   row-asked b = record {
     ready = record {
       sound = at .ready .sound;
-      cornered = at .ready .cornered;
+      terminals = at .ready .terminals;
       standing = standing-down cols task (at .ready .sound) (at .ready .standing) column-some b;
       row-room = room-same row column-some (at .ready .row-room);
       column-room = room b;
@@ -267,15 +272,6 @@ module _ {cols : Columns} {task : Task} {left r clean row column : ℕ} (at : Co
 
 -- ---- the question about a row bit
 
--- the reference that no column holds
-abbrev pub no-reference : ℕ
-no-reference = 4294967295
-
-unseen : (r nodes values : ℕ) → nodes ≤ 65536 → Seen (ref-of r) nodes values → r ≡ no-reference → ⊥
-unseen r nodes values few seen e =
-    let h : 2147483647 < nodes = node-seen nodes values no-reference (subst (λ (k : ℕ). Seen (ref-of k) nodes values) e seen) refl in
-    omega arith
-
 -- a whole number of qubits, of which one bit is asked for
 one-fewer : (left q : ℕ) → left ≡ levels q → (left ≡ 0 → ⊥) → (p : ℕ) × (left - 1 ≡ suc (levels p))
 one-fewer left zero e some = absurd (some e)
@@ -285,12 +281,12 @@ module _ {cols : Columns} {task : Task} {left r row column : ℕ} (at : Row-read
   abbrev 𝓢 : Sound cols task
   𝓢 = at .ready .sound
 
-  module _ {t : Bool} (test : t ≡ is-settled (value-at cols) task left r row column) where
+  module _ {t : Bool} (test : t ≡ is-settled task left r row column) where
     pub row-settled : t ≡ true → Nowhere ≡ row-sought cols task left r row column
-    row-settled e = sym (settled-nowhere cols task 𝓢 row column (at .ready .cornered) (at .ready .standing) (at .qubits-left) (at .whole) (sym test ∙ e))
+    row-settled e = sym (settled-nowhere cols task 𝓢 row column (at .ready .terminals) (at .ready .standing) (at .qubits-left) (at .whole) (sym test ∙ e))
 
     pub row-ended : t ≡ false → left ≡ 0 → {e : Entry} → e ≡ value-at cols (r / 2) → At row column e ≡ row-sought cols task left r row column
-    row-ended u none is = ap (At row column) is ∙ sym (unsettled-found cols task 𝓢 row column (at .ready .cornered) (at .ready .standing) none (sym test ∙ u))
+    row-ended u none is = ap (At row column) is ∙ sym (unsettled-found cols task 𝓢 row column (at .ready .terminals) (at .ready .standing) none (sym test ∙ u))
 
   pub level-fits : Fits w32 (task .levels - left + 1)
   level-fits = record { fits = omega (arith, 𝓢 .levels-are, levels-double (𝓢 .qubits), 𝓢 .searchable .few-qubits) }
@@ -315,7 +311,7 @@ module _ {cols : Columns} {task : Task} {left r row column : ℕ} (at : Row-read
     column-asked b clean known = record {
       ready = record {
         sound = 𝓢;
-        cornered = at .ready .cornered;
+        terminals = at .ready .terminals;
         standing = below b;
         row-room = room b;
         column-room = room-same column some (at .ready .column-room);
@@ -353,9 +349,9 @@ module _ {cols : Columns} {task : Task} {left r row column : ℕ} (at : Row-read
       pub low-stands : Standing cols task (left - 1) low
       low-stands = subst (Standing cols task (left - 1)) (sym low-is) (below false)
 
-      pub low-column-asked : Column-ready cols task (left - 1) low no-reference (2 * row) column
-      low-column-asked = subst (λ (x : ℕ). Column-ready cols task (left - 1) x no-reference (2 * row) column) (sym low-is)
-          (column-asked false no-reference
+      pub low-column-asked : Column-ready cols task (left - 1) low full (2 * row) column
+      low-column-asked = subst (λ (x : ℕ). Column-ready cols task (left - 1) x full (2 * row) column) (sym low-is)
+          (column-asked false full
           (λ e. absurd (unseen _ (task .nodes) (task .values) (𝓢 .searchable .few-nodes) (standing-down cols task 𝓢 (below false) more-left true .seen) e)))
 
       module _ {first : Found} (is : first ≡ column-sought cols task (left - 1) low (2 * row) column) where

@@ -3,15 +3,14 @@ use mathlib.Core.Path.{_≡_}
 use mathlib.Core.Bool.{true, false}
 use mathlib.Core.List.{List}
 use Prim.Native.Nat.{ℕ, zero, suc, _+_, _*_, _-_, _/_, _%_, _^_, _<_, _≤_}
-use lib.IntN.{ℤ}
 use lib.ListN.{length}
 use Rattle.algebra.specs.Entry.{𝟘}
-use Rattle.diagrams.specs.Diagram.{Tidy, From, levels}
-use Rattle.diagrams.specs.Columns.{Columns}
+use Rattle.diagrams.specs.Diagram.{ref-of, Tidy, From, levels}
+use Rattle.diagrams.specs.Columns.{Columns, NodeColumns, ValueColumns, zero-ref}
 use Rattle.diagrams.proofs.Unique.{Seen, Closed}
 use Rattle.searches.specs.declared.Found.the-variants.{Nowhere}
 use Rattle.searches.specs.declared.Task.{Task}
-use Rattle.searches.specs.Slots.{ref-of, store-in, cofactor}
+use Rattle.searches.specs.Slots.{store-in, cofactor}
 use Rattle.searches.specs.Search.{child, row-sought}
 
 -- ---- slots
@@ -27,17 +26,6 @@ abbrev pub Descends : List ℕ → List ℕ → List ℕ → ℕ → ℕ → ℕ
 Descends level low high zero asked r = Unit {0}
 Descends level low high (suc left) asked r = InNodes level low high r × Descends level low high left (suc asked) (cofactor level low high asked false r)
 
--- the columns have slot j
-pub record InValues (a b c d : List ℤ) (j : ℕ) : Type 0 where
-  pub in-a : j < length a
-  pub in-b : j < length b
-  pub in-c : j < length c
-  pub in-d : j < length d
-
--- where r is a value, the columns have its slot
-abbrev pub Value-there : List ℤ → List ℤ → List ℤ → List ℤ → ℕ → Type 0
-Value-there a b c d r = (r % 2 ≡ 1 → ⊥) → InValues a b c d (r / 2)
-
 -- ---- the columns
 
 -- The columns hold a store of a reduced diagram on n qubits: "no node whose low and high are alike, no two nodes alike, no value
@@ -49,13 +37,8 @@ pub record Searchable (n nodes values : ℕ) (cols : Columns) : Type 0 where
   pub some-node : 1 ≤ nodes
   pub few-nodes : nodes ≤ 65536
   pub few-values : values ≤ 65536
-  pub level-long : nodes ≤ length (cols .level)
-  pub low-long : nodes ≤ length (cols .low)
-  pub high-long : nodes ≤ length (cols .high)
-  pub a-long : values ≤ length (cols .a)
-  pub b-long : values ≤ length (cols .b)
-  pub c-long : values ≤ length (cols .c)
-  pub d-long : values ≤ length (cols .d)
+  pub node-columns : NodeColumns (cols .level) (cols .low) (cols .high) nodes
+  pub value-columns : ValueColumns (cols .a) (cols .b) (cols .c) (cols .d) values
   pub tidy : Tidy 𝟘 (levels n) (store-in nodes values cols)
   pub closed : Closed (store-in nodes values cols) nodes values
 
@@ -76,14 +59,15 @@ pub record Sound (cols : Columns) (task : Task) : Type 0 where
   pub levels-are : task .levels ≡ levels qubits
   pub searchable : Searchable qubits (task .nodes) (task .values) cols
 
--- the corner's reference is to a value in use
-pub record Cornered (task : Task) : Type 0 where
-  pub is-value : task .corner % 2 ≡ 1 → ⊥
-  pub used : task .corner / 2 < task .values
+-- the corner's reference is to a value in use, and the zero's to the value that is zero, if there is one
+pub record Terminals (cols : Columns) (task : Task) : Type 0 where
+  pub corner-even : task .corner % 2 ≡ 1 → ⊥
+  pub corner-used : task .corner / 2 < task .values
+  pub zero-is : task .zero ≡ zero-ref (store-in (task .nodes) (task .values) cols .values)
 
 pub record Ready (cols : Columns) (task : Task) (left r row column : ℕ) : Type 0 where
   pub sound : Sound cols task
-  pub cornered : Cornered task
+  pub terminals : Terminals cols task
   pub standing : Standing cols task left r
   pub row-room : Room left row
   pub column-room : Room left column

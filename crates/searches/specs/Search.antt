@@ -3,18 +3,18 @@
 use mathlib.Core.Bool.{Bool, false, cond, not}
 use mathlib.Core.List.{[], _∷_}
 use mathlib.Core.Option.{Option, none, some}
-use Prim.Native.Nat.{ℕ, _+_, _*_, _-_, _/_, _%_}
+use Prim.Native.Nat.{ℕ, _+_, _*_, _-_, _/_}
 use lib.Dec.{eqb}
 use Rattle.algebra.specs.declared.Entry.{Entry}
 use Rattle.algebra.specs.Entry.{𝟘}
 use Rattle.algebra.specs.Matrix.{Bits, Matrix}
-use Rattle.diagrams.specs.Diagram.{Ref, Store, reached, place, rows, columns, same-entry}
+use Rattle.diagrams.specs.Diagram.{Ref, ref-of, Store, reached, place, rows, columns, same-entry}
 use Rattle.diagrams.specs.Columns.{Columns}
 use Rattle.miters.specs.Report.{lowest}
 use Rattle.searches.specs.declared.Found.{Found}
 use Rattle.searches.specs.declared.Found.the-variants.{Nowhere, At}
 use Rattle.searches.specs.declared.Task.{Task}
-use Rattle.searches.specs.Slots.{ref-of, entry-in, store-in, cofactor}
+use Rattle.searches.specs.Slots.{store-in, value-at, cofactor}
 
 -- "A diagram gives, for a row and a column, the value reached from its root"
 abbrev pub given : Store Entry → Ref → Matrix
@@ -52,9 +52,6 @@ behind cols task left r = reached 𝟘 (store-in (task .nodes) (task .values) co
 abbrev pub child : Columns → Task → ℕ → Bool → ℕ → ℕ
 child cols task left b r = cofactor (cols .level) (cols .low) (cols .high) (task .levels - left) b r
 
-abbrev pub value-at : Columns → ℕ → Entry
-value-at cols j = entry-in (cols .a) (cols .b) (cols .c) (cols .d) j
-
 abbrev pub corner-at : Columns → Task → Entry
 corner-at cols task = value-at cols (task .corner / 2)
 
@@ -69,7 +66,5 @@ column-sought cols task left r row column = sought (λ y x e. At x y e) (corner-
 -- ---- where the search ends
 
 -- off the diagonal at the zero terminal, at a place on it at the corner's value
-abbrev pub is-settled : (ℕ → Entry) → Task → ℕ → ℕ → ℕ → ℕ → Bool
-is-settled entry-of task left r row column = cond (eqb row column)
-    (cond (eqb left 0) (eqb r (task .corner)) false)
-    (cond (eqb (r % 2) 1) false (same-entry (entry-of (r / 2)) 𝟘))
+abbrev pub is-settled : Task → ℕ → ℕ → ℕ → ℕ → Bool
+is-settled task left r row column = cond (eqb row column) (cond (eqb left 0) (eqb r (task .corner)) false) (eqb r (task .zero))

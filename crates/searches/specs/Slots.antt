@@ -1,42 +1,23 @@
--- What the first slots of lent columns hold. Definitions only; their laws are in proofs/Slots.antt.
+-- The store in the first slots of lent columns, and the steps down in it. Definitions only; their laws are in proofs/Slots.antt.
 use mathlib.Core.Bool.{Bool, false, cond}
-use mathlib.Core.List.{List, [], _∷_, _++_}
+use mathlib.Core.List.{List}
 use Prim.Native.Nat.{ℕ, zero, suc, _/_, _%_}
 use lib.Dec.{eqb}
-use lib.IntN.{ℤ, pos}
 use lib.ListN.{getD}
 use Rattle.algebra.specs.declared.Entry.{Entry}
-use Rattle.algebra.specs.Entry.{entry}
-use Rattle.diagrams.specs.Diagram.{Ref, value, node, Node, branch, Store, holding}
-use Rattle.diagrams.specs.Columns.{Columns}
-
--- "A reference 2·j is value j; 2·i + 1 is node i."
-abbrev pub ref-of : ℕ → Ref
-ref-of c = cond (eqb (c % 2) 1) (node (c / 2)) (value (c / 2))
-
-abbrev pub lent : List ℕ → List ℕ → List ℕ → List ℤ → List ℤ → List ℤ → List ℤ → Columns
-lent level low high a b c d = record { level = level; low = low; high = high; a = a; b = b; c = c; d = d }
-
--- ---- the store in the first slots
-
-abbrev pub node-in : List ℕ → List ℕ → List ℕ → ℕ → Node
-node-in level low high i = branch (getD level i 0) (ref-of (getD low i 0)) (ref-of (getD high i 0))
-
-abbrev pub entry-in : List ℤ → List ℤ → List ℤ → List ℤ → ℕ → Entry
-entry-in a b c d j = entry (getD a j (pos 0)) (getD b j (pos 0)) (getD c j (pos 0)) (getD d j (pos 0))
-
--- f 0, f 1, .., f (n − 1)
-unfoldable pub listed : {A : Type 0} → ℕ → (ℕ → A) → List A
-listed zero f = []
-listed (suc n) f = listed n f ++ (f n ∷ [])
+use Rattle.diagrams.specs.Diagram.{Store, holding}
+use Rattle.diagrams.specs.Columns.{Columns, entry-of, entries-of}
+use Rattle.diagrams.specs.UniqueTable.{nodes-in}
 
 -- the nodes and the values in so many slots from 0 up
 abbrev pub store-in : ℕ → ℕ → Columns → Store Entry
-store-in nodes values cols = holding
-    (listed nodes (node-in (cols .level) (cols .low) (cols .high)))
-    (listed values (entry-in (cols .a) (cols .b) (cols .c) (cols .d)))
+store-in nodes values cols =
+    holding (nodes-in nodes (cols .level) (cols .low) (cols .high)) (entries-of (cols .a) (cols .b) (cols .c) (cols .d) values)
 
--- ---- one step down
+abbrev pub value-at : Columns → ℕ → Entry
+value-at cols j = entry-of (cols .a) (cols .b) (cols .c) (cols .d) j
+
+-- ---- steps down
 
 -- "going low where the bit asked for is 0 and high where it is 1"; a reference that does not ask for the level stays
 abbrev pub cofactor : List ℕ → List ℕ → List ℕ → ℕ → Bool → ℕ → ℕ

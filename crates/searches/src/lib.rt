@@ -3,17 +3,18 @@
 // Node i stands in slot i of the columns level, low and high, value j in slot j of the columns a, b, c and d. The reference to
 // value j is 2·j, that to node i is 2·i + 1.
 use algebra::Entry;
+use diagrams::FULL;
 use miters::Difference;
 use miters::Verdict;
 ghost use mathlib.Core.Path.{_≡_};
 ghost use mathlib.Core.Bool.{true, false};
-ghost use Prim.Native.Nat.{suc, _+_, _*_, _-_};
-ghost use Rattle.diagrams.specs.Diagram.{node, levels, same-entry};
-ghost use Rattle.algebra.specs.Entry.{𝟘};
+ghost use Prim.Native.Nat.{_-_};
+ghost use Rattle.diagrams.specs.Diagram.{node};
+ghost use Rattle.diagrams.specs.Columns.{columns};
 ghost use Rattle.miters.specs.Report.{verdict};
-ghost use Rattle.searches.specs.Slots.{ref-of, lent, store-in, entry-in, cofactor, leftmost};
+ghost use Rattle.searches.specs.Slots.{store-in, cofactor, leftmost};
 ghost use Rattle.searches.specs.Search.{given, is-settled, row-sought, column-sought};
-ghost use Rattle.searches.specs.Ready.{InNodes, InValues, Value-there, Descends, Searchable, Row-ready, Column-ready};
+ghost use Rattle.searches.specs.Ready.{InNodes, Descends, Searchable, Row-ready, Column-ready};
 
 // ---- what the columns hold
 
@@ -42,42 +43,15 @@ fn look(level: &[u32], low: &[u32], high: &[u32], r: u32, asked: u32) -> Sides
     }
 }
 
-// Value j.
-fn entry_at(a: &[i32], b: &[i32], c: &[i32], d: &[i32], j: usize) -> Entry
-    requires { ⌜ InValues (now a) (now b) (now c) (now d) j ⌝ }
-    ensures { λ e. ⌜ e ≡ entry-in (now (a .entry)) (now (b .entry)) (now (c .entry)) (now (d .entry)) j ⌝ }
-{
-    Entry {
-        a: a[j],
-        b: b[j],
-        c: c[j],
-        d: d[j],
-    }
-}
-
-fn is_zero(e: Entry) -> bool
-    ensures { λ z. ⌜ z ≡ same-entry e 𝟘 ⌝ }
-{
-    if e.a != 0 {
-        return false;
-    }
-    if e.b != 0 {
-        return false;
-    }
-    if e.c != 0 {
-        return false;
-    }
-    e.d == 0
-}
-
 // ---- the search
 
-// What is searched: the used nodes and values, the levels, and the reference to the corner's value.
+// What is searched: the used nodes and values, the levels, and the references to the corner's value and to zero.
 struct Task {
     nodes: u32,
     values: u32,
     levels: u32,
     corner: u32,
+    zero: u32,
 }
 
 // The lowest place found that forbids equality, with its entry.
@@ -87,25 +61,11 @@ enum Found {
 }
 
 // Nothing is to be sought behind r: off the diagonal it is the zero terminal, or at a place on it the corner's value.
-fn settled(
-    a: &[i32],
-    b: &[i32],
-    c: &[i32],
-    d: &[i32],
-    task: Task,
-    left: u32,
-    r: u32,
-    row: u32,
-    column: u32,
-) -> bool
-    requires { ⌜ Value-there (now a) (now b) (now c) (now d) r ⌝ }
-    ensures { λ t. ⌜ t ≡ is-settled (entry-in (now (a .entry)) (now (b .entry)) (now (c .entry)) (now (d .entry))) task left r row column ⌝ }
+fn settled(task: Task, left: u32, r: u32, row: u32, column: u32) -> bool
+    ensures { λ t. ⌜ t ≡ is-settled task left r row column ⌝ }
 {
     if row != column {
-        if r % 2 == 1 {
-            return false;
-        }
-        return is_zero(entry_at(a, b, c, d, (r / 2) as usize));
+        return r == task.zero;
     }
     if left != 0 {
         return false;
@@ -127,9 +87,6 @@ fn corner_of(level: &[u32], low: &[u32], high: &[u32], levels: u32, root: u32) -
     r
 }
 
-// A reference that no column holds.
-const NO_REFERENCE: u32 = 4294967295;
-
 // What is found behind r from the question about a row bit on, with so many levels left. The bits before it are those of `row`
 // and `column`; the place is on the diagonal if they are one number.
 fn ask_row(
@@ -146,16 +103,16 @@ fn ask_row(
     row: u32,
     column: u32,
 ) -> Found
-    requires { ⌜ Row-ready (lent (now level) (now low) (now high) (now a) (now b) (now c) (now d)) task left r row column ⌝ }
+    requires { ⌜ Row-ready (columns (now level) (now low) (now high) (now a) (now b) (now c) (now d)) task left r row column ⌝ }
     ensures { λ f. ⌜ f ≡ row-sought
-        (lent (now (level .entry)) (now (low .entry)) (now (high .entry)) (now (a .entry)) (now (b .entry)) (now (c .entry)) (now (d .entry)))
+        (columns (now (level .entry)) (now (low .entry)) (now (high .entry)) (now (a .entry)) (now (b .entry)) (now (c .entry)) (now (d .entry)))
         task left r row column ⌝ }
 {
-    if settled(a, b, c, d, task, left, r, row, column) {
+    if settled(task, left, r, row, column) {
         return Found::Nowhere;
     }
     if left == 0 {
-        let entry = entry_at(a, b, c, d, (r / 2) as usize);
+        let entry = diagrams::value_at(a, b, c, d, (r / 2) as usize);
         return Found::At { row, column, entry };
     }
     let asked = task.levels - left;
@@ -171,7 +128,7 @@ fn ask_row(
         task,
         left - 1,
         sides.low,
-        NO_REFERENCE,
+        FULL,
         2 * row,
         column,
     );
@@ -220,9 +177,9 @@ fn ask_column(
     row: u32,
     column: u32,
 ) -> Found
-    requires { ⌜ Column-ready (lent (now level) (now low) (now high) (now a) (now b) (now c) (now d)) task left r clean row column ⌝ }
+    requires { ⌜ Column-ready (columns (now level) (now low) (now high) (now a) (now b) (now c) (now d)) task left r clean row column ⌝ }
     ensures { λ f. ⌜ f ≡ column-sought
-        (lent (now (level .entry)) (now (low .entry)) (now (high .entry)) (now (a .entry)) (now (b .entry)) (now (c .entry)) (now (d .entry)))
+        (columns (now (level .entry)) (now (low .entry)) (now (high .entry)) (now (a .entry)) (now (b .entry)) (now (c .entry)) (now (d .entry)))
         task left r row column ⌝ }
 {
     let sides = look(level, low, high, r, task.levels - left);
@@ -283,10 +240,10 @@ pub fn read_verdict(
     values: u32,
     n: u32,
 ) -> Verdict
-    requires { ⌜ Searchable n nodes values (lent (now level) (now low) (now high) (now a) (now b) (now c) (now d)) ⌝ }
+    requires { ⌜ Searchable n nodes values (columns (now level) (now low) (now high) (now a) (now b) (now c) (now d)) ⌝ }
     ensures { λ v. ⌜ v ≡ verdict n (given
         (store-in nodes values
-        (lent (now (level .entry)) (now (low .entry)) (now (high .entry)) (now (a .entry)) (now (b .entry)) (now (c .entry)) (now (d .entry))))
+        (columns (now (level .entry)) (now (low .entry)) (now (high .entry)) (now (a .entry)) (now (b .entry)) (now (c .entry)) (now (d .entry))))
         (node (nodes - 1))) ⌝ }
 {
     let levels = 2 * n;
@@ -297,9 +254,10 @@ pub fn read_verdict(
         values,
         levels,
         corner,
+        zero: diagrams::zero_of(a, b, c, d, values),
     };
     let found = ask_row(level, low, high, a, b, c, d, task, levels, root, 0, 0);
-    let factor = entry_at(a, b, c, d, (corner / 2) as usize);
+    let factor = diagrams::value_at(a, b, c, d, (corner / 2) as usize);
     match found {
         Found::Nowhere => Verdict::Equal(factor),
         Found::At { row, column, entry } => Verdict::Different(Difference {

@@ -8,13 +8,13 @@ use borrow.Fn.PlainCycle.{Measures, is, falls, and}
 use Rattle.searches.proofs.Turns.{low-fits, high-fits, level-fits, nodes-there, value-there}
 use Rattle.searches.proofs.Turns.{column-some, low-row-asked, high-row-asked, column-first, column-clean, column-second}
 use Rattle.searches.proofs.Turns.{row-settled, row-ended, end-value, low-stands, low-column-asked, high-column-asked, row-first, row-second}
+use Rattle.diagrams.proofs.value_at.Reads as entry
 use Rattle.searches.proofs.ask_column.Reads as column
 use Rattle.searches.proofs.ask_column.Kinds as column-kinds
 use Rattle.searches.proofs.+ask_column+ask_row.Lts-ask_column as column-lts
 use Rattle.searches.proofs.ask_row.Reads as row
 use Rattle.searches.proofs.ask_row.Kinds as row-kinds
 use Rattle.searches.proofs.+ask_column+ask_row.Lts-ask_row as row-lts
-use Rattle.searches.proofs.entry_at.Reads as entry
 use Rattle.searches.proofs.look.Reads as look
 use Rattle.searches.proofs.settled.Reads as settled
 use Rattle.searches.proofs.+ask_column+ask_row.{statement}
@@ -93,16 +93,13 @@ module _ (t : ℕ) where
 
   -- ---- at the question about a row bit
 
-  row-test : row-lts.Need-settled-requires row-calls (row-at t) row.Post
-  row-test c κs = let at = c .before .before .before .pre .1 in value-there _ _ (at .ready .sound) (at .ready .standing)
-
   abbrev row-start : row-lts.After-settled row-calls (row-at t) row.Post → row-lts.Start row-calls (row-at t) row.Post
   row-start c = c .before .before .before .before
 
   row-returns : row-lts.Need-returns row-calls (row-at t) row.Post
   row-returns c = row-settled (row-start (c .before) .pre .1) (c .before .settled .ensures) (c .if1 .taken)
 
-  row-entry : row-lts.Need-entry-at-requires row-calls (row-at t) row.Post
+  row-entry : row-lts.Need-value-at-requires row-calls (row-at t) row.Post
   row-entry c κs =
       let at = row-start (c .before .before) .pre .1 in
       value-there _ _ (at .ready .sound) (at .ready .standing) (end-value at (c .if2 .taken))
@@ -110,7 +107,7 @@ module _ (t : ℕ) where
   row-returns-2 : row-lts.Need-returns-2 row-calls (row-at t) row.Post
   row-returns-2 c =
       let u = c .before .before .before in
-      row-ended (row-start u .pre .1) (u .settled .ensures) (c .before .before .if1 .left) (c .before .if2 .taken) (c .entry-at .ensures)
+      row-ended (row-start u .pre .1) (u .settled .ensures) (c .before .before .if1 .left) (c .before .if2 .taken) (c .value-at .ensures)
 
   -- there is a bit to ask for
   abbrev row-some : row-lts.Else2 row-calls (row-at t) row.Post → row-lts.Start row-calls (row-at t) row.Post
@@ -181,7 +178,7 @@ pub +ask-column+ask-row-spec : {M : Type 1} → statement M
     (column-high t)
     (column-returns-3 t))
     (λ t. row-lts.spec (row-calls t) (row-at t) row.Post
-    (row-test t)
+    (λ c κs. search needs)
     (row-returns t)
     (λ c. omega (arith, row-start t (c .before .before) .fits .r))
     (row-entry t)

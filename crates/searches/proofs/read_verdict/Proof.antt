@@ -20,14 +20,20 @@ add-root c = search needs
 corner-of-requires : tie.Need-corner-of-requires
 corner-of-requires c κs = root-descends _ _ _ _ (c .before .before .before .pre)
 
+zero-of-requires : tie.Need-zero-of-requires
+zero-of-requires c κs = let held = c .before .before .before .before .pre in (held .few-values, held .value-columns)
+
 ask-row-requires : tie.Need-ask-row-requires
-ask-row-requires c κs = root-ready _ _ _ _ (c .before .before .before .before .pre) _ (c .corner-of .ensures)
+ask-row-requires c κs = let r = c .before in root-ready _ _ _ _ (r .before .before .before .before .pre) (r .corner-of .ensures) (c .zero-of .ensures)
 
-cast-entry-at : tie.Need-cast-entry-at
-cast-entry-at c = search needs
+cast-value-at : tie.Need-cast-value-at
+cast-value-at c = search needs
 
-entry-at-requires : tie.Need-entry-at-requires
-entry-at-requires c κs = let r = c .before in corner-there _ _ _ _ (r .before .before .before .before .pre) _ (r .corner-of .ensures)
+value-at-requires : tie.Need-value-at-requires
+value-at-requires c κs =
+    let z = c .before in
+    let r = z .before in
+    corner-there _ _ _ _ (r .before .before .before .before .pre) (r .corner-of .ensures) (z .zero-of .ensures)
 
 enum-told : tie.Need-enum-told
 enum-told c = search needs
@@ -39,15 +45,19 @@ returns : tie.Need-returns
 returns c =
     let e = c .before .before in
     let f = e .before in
-    let r = f .before in
-    found-verdict _ _ _ _ (r .before .before .before .before .pre) _ (r .corner-of .ensures) (f .ask-row .ensures) (c .enum-told .given .1) (e .entry-at .ensures)
+    let z = f .before in
+    let r = z .before in
+    found-verdict _ _ _ _ (r .before .before .before .before .pre) (r .corner-of .ensures) (z .zero-of .ensures)
+    (f .ask-row .ensures) (c .enum-told .given .1) (e .value-at .ensures)
 
 returns-2 : tie.Need-returns-2
 returns-2 c =
     let e = c .before .before .before in
     let f = e .before in
-    let r = f .before in
-    found-verdict _ _ _ _ (r .before .before .before .before .pre) _ (r .corner-of .ensures) (f .ask-row .ensures) (c .before .found .given .1) (e .entry-at .ensures)
+    let z = f .before in
+    let r = z .before in
+    found-verdict _ _ _ _ (r .before .before .before .before .pre) (r .corner-of .ensures) (z .zero-of .ensures)
+    (f .ask-row .ensures) (c .before .found .given .1) (e .value-at .ensures)
 
 pub read-verdict-spec : {M : Type 1} → statement M
 read-verdict-spec =
@@ -58,9 +68,10 @@ read-verdict-spec =
     mul-root
     add-root
     corner-of-requires
+    zero-of-requires
     ask-row-requires
-    cast-entry-at
-    entry-at-requires
+    cast-value-at
+    value-at-requires
     enum-told
     enum-known-found
     returns
