@@ -4,3 +4,4 @@ pub mod Corners
 pub mod Turns
 pub mod Verdicts
 pub mod Starts
+pub mod Held
