@@ -1,121 +1,122 @@
--- The search from the root on: it is ready, the way to the corner leads to a value in use, and what is found comes to the verdict.
+-- The search from the root on: it is ready, and what it finds comes to the verdict.
 -- Assumes nothing.
-use mathlib.Core.Path.{_≡_, refl, sym, _∙_, ap, ap₂, subst, _≡⟨_⟩_, _∎}
-use mathlib.Core.Bool.{Bool, false}
+use mathlib.Core.Path.{_≡_, sym, _∙_, ap, ap₂, subst, subst₂, _≡⟨_⟩_, _∎}
+use mathlib.Core.Bool.{false}
 use mathlib.Core.List.{[], _∷_}
 use Prim.Native.Nat.{ℕ, zero, suc, _+_, _*_, _-_, _/_, _%_, _^_, _<_, _≤_}
 use native.Mathlib.Omega.{arith}
 use lib.Pow.{pow-mono}
-use lib.ListN.{replicate}
+use lib.ListN.{length, replicate, length-replicate}
+use lib.Dec.{eqb}
 use Rattle.algebra.specs.declared.Entry.{Entry}
 use Rattle.algebra.specs.Entry.{𝟘}
 use Rattle.algebra.specs.Matrix.{Bits, Matrix}
-use Rattle.diagrams.specs.Diagram.{Ref, node, ref-of, reached, From, levels}
+use Rattle.diagrams.specs.Diagram.{Ref, node, ref-of, Store, reached, From, levels}
 use Rattle.diagrams.specs.Columns.{Columns, ValueColumns, zero-ref}
+use Rattle.diagrams.specs.UniqueTable.{full}
 use Rattle.diagrams.proofs.Places.{levels-double}
 use Rattle.diagrams.proofs.Unique.{Seen}
-use Rattle.miters.specs.declared.Verdict.{Verdict}
+use Rattle.miters.specs.declared.Verdict.the-variants.{Equal, Different}
 use Rattle.miters.specs.Miter.{corner}
 use Rattle.miters.specs.Report.{verdict}
 use Rattle.searches.specs.declared.Found.{Found}
-use Rattle.searches.specs.declared.Found.the-variants.{At}
+use Rattle.searches.specs.declared.Found.the-variants.{Nowhere, At}
 use Rattle.searches.specs.declared.Task.{Task}
-use Rattle.searches.specs.Slots.{store-in, value-at, leftmost}
-use Rattle.searches.specs.Search.{given, sought, behind, child, row-sought}
-use Rattle.searches.specs.Ready.{Descends, Searchable, Standing, Sound, Row-ready}
-use Rattle.searches.proofs.Slots.{ref-node, value-seen}
-use Rattle.searches.proofs.Turns.{nodes-there, value-there, standing-down, behind-down, value-behind, at-end}
-use Rattle.searches.proofs.Verdicts.{place-corner, answered, sought-verdict}
-
--- ---- the way to the corner
-
-module _ (cols : Columns) (task : Task) (sound : Sound cols task) where
-  abbrev last : ℕ → ℕ → ℕ → ℕ
-  last left asked r = leftmost (cols .level) (cols .low) (cols .high) left asked r
-
-  -- the way down from r, low at each of the levels left, leads to a reference that gives what r gives by these bits
-  record Way (left asked r : ℕ) : Type 0 where
-    descends : Descends (cols .level) (cols .low) (cols .high) left asked r
-    stands : Standing cols task 0 (last left asked r)
-    gives : behind cols task left r (replicate left false) ≡ behind cols task 0 (last left asked r) []
-
-  way : (left asked r : ℕ) → asked ≡ task .levels - left → Standing cols task left r → Way left asked r
-  way zero asked r e at = record { descends = tt; stands = at; gives = refl }
-  way (suc left) asked r e at = subst (λ (k : ℕ). Way (suc left) k r) (sym e) (by-rest (way left (suc (task .levels - suc left)) x next below))
-    where
-      x : ℕ
-      x = child cols task (suc left) false r
-
-      more : suc left ≡ 0 → ⊥
-      more h = omega arith
-
-      fewer : suc left - 1 ≡ left
-      fewer = omega arith
-
-      next : suc (task .levels - suc left) ≡ task .levels - left
-      next = omega (arith, at .within)
-
-      below : Standing cols task left x
-      below = subst (λ (k : ℕ). Standing cols task k x) fewer (standing-down cols task sound at more false)
-
-      by-rest : Way left (suc (task .levels - suc left)) x → Way (suc left) (task .levels - suc left) r
-      by-rest rest = record {
-        descends = (nodes-there cols task sound at, rest .descends);
-        stands = rest .stands;
-        gives =
-            ap (λ (f : Bits → Entry). f (replicate left false)) (behind-down cols task sound at more false)
-            ∙ ap (λ (k : ℕ). behind cols task k x (replicate left false)) fewer ∙ rest .gives;
-      }
-
--- ---- from the root on
+use Rattle.searches.specs.Slots.{store-in, value-at, cofactor, landing}
+use Rattle.searches.specs.Search.{given, sought, row-sought}
+use Rattle.searches.specs.Ready.{Used, Descends, Searchable, Sound, Row-ready}
+use Rattle.searches.proofs.Slots.{nodes-there, used-down}
+use Rattle.searches.proofs.Landings.{ref-node, Lands, landed, children-used, zero-value, value-test, zero-test}
+use Rattle.searches.proofs.Verdicts.{place-corner, answered, Tells, sought-verdict, sought-lands}
 
 module _ (n nodes values : ℕ) (cols : Columns) (held : Searchable n nodes values cols) where
+  abbrev s : Store Entry
+  s = store-in nodes values cols
+
   abbrev root : ℕ
   root = 2 * (nodes - 1) + 1
 
-  -- the reference to the corner's value
-  abbrev corner-reference : ℕ
-  corner-reference = leftmost (cols .level) (cols .low) (cols .high) (2 * n) 0 root
+  abbrev task : ℕ → ℕ → Task
+  task c z = record { nodes = nodes; levels = 2 * n; corner = c; zero = z }
+
+  -- the reference that the bits of all levels lead to, and its entry
+  abbrev f : Bits → ℕ
+  f = landing (cols .level) (cols .low) (cols .high) 0 root
+
+  abbrev g : Bits → Entry
+  g = reached 𝟘 s 0 (node (nodes - 1))
+
+  abbrev M : Matrix
+  M = given s (node (nodes - 1))
+
+  -- ---- it is ready
+
+  sound : (c z : ℕ) → (z % 2 ≡ 1 → z ≡ full) → Sound (cols .level) (cols .low) (cols .high) (task c z)
+  sound c z zero-value = record {
+    few-nodes = held .few-nodes;
+    few-levels = omega (arith, held .few-qubits);
+    node-columns = held .node-columns;
+    closed = children-used nodes values (levels n) cols (held .tidy) (held .closed);
+    zero-value = zero-value;
+  }
+
+  root-used : Used nodes root
+  root-used odd = omega (arith, held .some-node)
+
+  descends : (left asked r : ℕ) → Used nodes r → Descends (cols .level) (cols .low) (cols .high) left asked r
+  descends zero asked r used = tt
+  descends (suc left) asked r used = (
+    nodes-there (cols .level) (cols .low) (cols .high) (task 0 0) plain used,
+    descends left (suc asked) (cofactor (cols .level) (cols .low) (cols .high) asked false r)
+        (used-down (cols .level) (cols .low) (cols .high) (task 0 0) plain asked false r used),
+  )
+    where
+      plain : Sound (cols .level) (cols .low) (cols .high) (task 0 0)
+      plain = sound 0 0 (λ odd. absurd (omega arith))
+
+  pub root-descends : Descends (cols .level) (cols .low) (cols .high) (2 * n) 0 root
+  root-descends = descends (2 * n) 0 root root-used
+
+  -- ---- where it lands
 
   root-is : ref-of root ≡ node (nodes - 1)
   root-is = ref-node root (omega arith) ∙ ap node (omega arith)
 
-  abbrev task : ℕ → ℕ → Task
-  task c z = record { nodes = nodes; values = values; levels = 2 * n; corner = c; zero = z }
+  abbrev Landing : ℕ → Entry → Type 0
+  Landing = Lands nodes values (levels n) cols (held .tidy) (held .closed)
 
-  module _ (c z : ℕ) where
-    sound : Sound cols (task c z)
-    sound = record { qubits = n; levels-are = sym (levels-double n); searchable = held }
+  root-lands : (l : Bits) → length l ≡ levels n → Landing (f l) (g l)
+  root-lands l e = subst (λ (x : Ref). Landing (f l) (reached 𝟘 s 0 x l)) root-is
+      (landed nodes values (levels n) cols (held .tidy) (held .closed) l 0 root
+      (subst (λ (x : Ref). Seen x nodes values) (sym root-is) (omega (arith, held .some-node)))
+      (subst (From s 0) (sym root-is) (omega arith)) (omega arith))
 
-    root-stands : Standing cols (task c z) (2 * n) root
-    root-stands = record {
-      within = omega arith;
-      seen = subst (λ (x : Ref). Seen x nodes values) (sym root-is) (omega (arith, held .some-node));
-      from = subst (From (store-in nodes values cols) (2 * n - 2 * n)) (sym root-is) (omega arith);
-    }
+  slot-there : {v : ℕ} {e : Entry} → Landing v e → ValueColumns (cols .a) (cols .b) (cols .c) (cols .d) (v / 2 + 1)
+  slot-there {v} lands =
+      let used : v / 2 < values = lands .used in
+      record {
+        in-a = omega (arith, held .value-columns);
+        in-b = omega (arith, held .value-columns);
+        in-c = omega (arith, held .value-columns);
+        in-d = omega (arith, held .value-columns);
+      }
 
-    root-way : Way cols (task c z) sound (2 * n) 0 root
-    root-way = way cols (task c z) sound (2 * n) 0 root (omega arith) root-stands
-
-  pub root-descends : Descends (cols .level) (cols .low) (cols .high) (2 * n) 0 root
-  root-descends = root-way 0 0 .descends
-
-  module _ {c z : ℕ} (c-is : c ≡ corner-reference) (z-is : z ≡ zero-ref (store-in nodes values cols .values)) where
-    corner-stands : Standing cols (task c z) 0 c
-    corner-stands = subst (Standing cols (task c z) 0) (sym c-is) (root-way c z .stands)
-
-    corner-even : c % 2 ≡ 1 → ⊥
-    corner-even = at-end cols (task c z) (sound c z) corner-stands refl
+  module _ {c z : ℕ} (c-is : c ≡ f (replicate (2 * n) false)) (z-is : z ≡ zero-ref (s .values)) where
+    corner-lands : Landing c (corner n M)
+    corner-lands = subst₂ Landing (sym c-is′) (ap g (sym (place-corner n))) (root-lands (replicate (levels n) false) (length-replicate (levels n) false))
+      where
+        c-is′ : c ≡ f (replicate (levels n) false)
+        c-is′ = c-is ∙ ap (λ (k : ℕ). f (replicate k false)) (sym (levels-double n))
 
     pub corner-there : ValueColumns (cols .a) (cols .b) (cols .c) (cols .d) (c / 2 + 1)
-    corner-there = value-there cols (task c z) (sound c z) corner-stands corner-even
+    corner-there = slot-there corner-lands
 
-    pub root-ready : Row-ready cols (task c z) (2 * n) root 0 0
+    pub root-ready : Row-ready (cols .level) (cols .low) (cols .high) (task c z) (2 * n) root 0 0
     root-ready = record {
       ready = record {
-        sound = sound c z;
-        terminals = record { corner-even = corner-even; corner-used = value-seen nodes values c (corner-stands .seen) corner-even; zero-is = z-is };
-        standing = root-stands c z;
+        sound = sound c z (λ odd. z-is ∙ zero-value nodes values (levels n) cols (held .tidy) (held .closed) (ap (λ (k : ℕ). k % 2) (sym z-is) ∙ odd));
+        within = omega arith;
+        used = root-used;
         row-room = room;
         column-room = room;
       };
@@ -126,35 +127,39 @@ module _ (n nodes values : ℕ) (cols : Columns) (held : Searchable n nodes valu
         room : 1 * 2 ^ (2 * n) ≤ 4294967296
         room = omega (arith, pow-mono {i = 2 * n} {j = 32} (omega (arith, held .few-qubits)))
 
-    abbrev M : Matrix
-    M = given (store-in nodes values cols) (node (nodes - 1))
+    -- ---- what it finds
 
-    abbrev f : Bits → Entry
-    f = reached 𝟘 (store-in nodes values cols) 0 (node (nodes - 1))
-
-    behind-root : behind cols (task c z) (2 * n) root ≡ f
-    behind-root = ap₂ (λ (level : ℕ) (x : Ref). reached 𝟘 (store-in nodes values cols) level x) none root-is
+    from-root : row-sought (cols .level) (cols .low) (cols .high) (task c z) (2 * n) root 0 0 ≡ sought At (task c z) (levels n) f 0 0
+    from-root = λ i. sought At (task c z) (sym (levels-double n) i) (landing (cols .level) (cols .low) (cols .high) (none i) root) 0 0
       where
         none : 2 * n - 2 * n ≡ 0
         none = omega arith
 
-    corner-is : value-at cols (c / 2) ≡ corner n M
-    corner-is =
-        value-at cols (c / 2) ≡⟨ sym (value-behind cols (task c z) (sound c z) corner-stands corner-even []) ⟩
-        behind cols (task c z) 0 c [] ≡⟨ ap (λ (r : ℕ). behind cols (task c z) 0 r []) c-is ⟩
-        behind cols (task c z) 0 corner-reference [] ≡⟨ sym (root-way c z .gives) ⟩
-        behind cols (task c z) (2 * n) root (replicate (2 * n) false) ≡⟨ ap (λ (g : Bits → Entry). g (replicate (2 * n) false)) behind-root ⟩
-        f (replicate (2 * n) false) ≡⟨ ap (λ (k : ℕ). f (replicate k false)) (sym (levels-double n)) ⟩
-        f (replicate (levels n) false) ≡⟨ ap f (sym (place-corner n)) ⟩
-        corner n M ∎
+    tells : (l : Bits) → length l ≡ levels n → Tells n (task c z) (value-at cols) f g l
+    tells l e =
+        let lands = root-lands l e in
+        record {
+          entry-is = lands .entry;
+          tells-corner = value-test nodes values (levels n) cols (held .tidy) (held .closed) lands corner-lands;
+          tells-zero = ap (eqb (f l)) z-is ∙ zero-test nodes values (levels n) cols (held .tidy) (held .closed) lands;
+        }
 
-    -- the factor, or the place that the search found with it
-    pub found-verdict : {found told : Found} {factor : Entry} → found ≡ row-sought cols (task c z) (2 * n) root 0 0 → found ≡ told
-        → factor ≡ value-at cols (c / 2) → answered factor told ≡ verdict n M
-    found-verdict {told = told} {factor = factor} found-is told-is factor-is =
-        answered factor told ≡⟨ ap₂ answered (factor-is ∙ corner-is) (sym told-is ∙ found-is ∙ from-root) ⟩
-        answered (corner n M) (sought At (corner n M) (levels n) f 0 0) ≡⟨ sought-verdict n f ⟩
-        verdict n M ∎
-      where
-        from-root : row-sought cols (task c z) (2 * n) root 0 0 ≡ sought At (corner n M) (levels n) f 0 0
-        from-root = λ i. sought At (corner-is i) (sym (levels-double n) i) (behind-root i) 0 0
+    module _ {found : Found} (found-is : found ≡ row-sought (cols .level) (cols .low) (cols .high) (task c z) (2 * n) root 0 0) where
+      answered-verdict : {factor : Entry} → factor ≡ value-at cols (c / 2) → answered (value-at cols) factor found ≡ verdict n M
+      answered-verdict {factor} factor-is =
+          answered (value-at cols) factor found ≡⟨ ap₂ (answered (value-at cols)) (factor-is ∙ corner-lands .entry) (found-is ∙ from-root) ⟩
+          answered (value-at cols) (corner n M) (sought At (task c z) (levels n) f 0 0) ≡⟨ sought-verdict n (task c z) (value-at cols) f g tells ⟩
+          verdict n M ∎
+
+      pub found-equal : {factor : Entry} → found ≡ Nowhere → factor ≡ value-at cols (c / 2) → Equal factor ≡ verdict n M
+      found-equal {factor} nowhere factor-is = ap (answered (value-at cols) factor) (sym nowhere) ∙ answered-verdict factor-is
+
+      pub found-different : {x y v : ℕ} {e factor : Entry} → found ≡ At x y v → e ≡ value-at cols (v / 2) → factor ≡ value-at cols (c / 2)
+          → Different (record { row = x; column = y; entry = e; corner = factor }) ≡ verdict n M
+      found-different {x} {y} {factor = factor} at e-is factor-is =
+          ap (λ (e : Entry). Different (record { row = x; column = y; entry = e; corner = factor })) e-is
+          ∙ ap (answered (value-at cols) factor) (sym at) ∙ answered-verdict factor-is
+
+      pub found-there : {x y v : ℕ} → found ≡ At x y v → ValueColumns (cols .a) (cols .b) (cols .c) (cols .d) (v / 2 + 1)
+      found-there e = sought-lands (task c z) (levels n) f (λ v. ValueColumns (cols .a) (cols .b) (cols .c) (cols .d) (v / 2 + 1))
+          (λ l h. slot-there (root-lands l h)) (sym from-root ∙ sym found-is ∙ e)

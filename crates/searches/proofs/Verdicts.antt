@@ -1,13 +1,14 @@
 -- What is sought from the root on comes to the verdict, and the verdict depends on the matrix's entries alone.
 -- Assumes nothing.
-use mathlib.Core.Path.{_≡_, refl, sym, _∙_, ap, ap₂}
+use mathlib.Core.Path.{_≡_, refl, sym, _∙_, ap, ap₂, subst}
 use mathlib.Core.Bool.{Bool, true, false, cond, not}
 use mathlib.Core.List.{[], _∷_}
 use mathlib.Core.Option.{Option, none, some}
-use Prim.Native.Nat.{ℕ, zero, suc, _+_, _*_, _^_}
+use Prim.Native.Nat.{ℕ, zero, suc, _+_, _*_, _/_, _^_}
 use native.Mathlib.Nat.{pow-suc}
 use native.Mathlib.Omega.{arith}
 use lib.ListN.{length, replicate, length-replicate}
+use lib.Dec.{eqb}
 use Rattle.algebra.specs.declared.Entry.{Entry}
 use Rattle.algebra.specs.Entry.{𝟘}
 use Rattle.algebra.specs.Matrix.{Bits, Matrix, same}
@@ -21,6 +22,7 @@ use Rattle.miters.specs.Report.{number, forbids, lowest, difference, verdict-by
 use Rattle.miters.proofs.Verdicts.{Searched, nowhere, least, lowest-searched}
 use Rattle.searches.specs.declared.Found.{Found}
 use Rattle.searches.specs.declared.Found.the-variants.{Nowhere, At}
+use Rattle.searches.specs.declared.Task.{Task}
 use Rattle.searches.specs.Search.{onward, forbids-from, found-from, sought}
 use Rattle.searches.proofs.Blocks.{lowest-ext, onward-eqb}
 
@@ -80,31 +82,53 @@ place-corner (suc n) = ap (λ (m : Bits). false ∷ false ∷ m) (place-corner n
 -- ---- what is found from the root on
 
 -- what is answered: the factor, or the place found with it
-abbrev pub answered : Entry → Found → Verdict
-answered factor Nowhere = Equal factor
-answered factor (At row column e) = Different (record { row = row; column = column; entry = e; corner = factor })
+abbrev pub answered : (ℕ → Entry) → Entry → Found → Verdict
+answered entry-of factor Nowhere = Equal factor
+answered entry-of factor (At row column v) = Different (record { row = row; column = column; entry = entry-of (v / 2); corner = factor })
 
-module _ (n : ℕ) (f : Bits → Entry) where
+-- f lands on references, and g gives their entries
+module _ (n : ℕ) (task : Task) (entry-of : ℕ → Entry) (f : Bits → ℕ) (g : Bits → Entry) where
   abbrev M : Matrix
-  M r c = f (place r c)
+  M r c = g (place r c)
 
-  pub sought-verdict : answered (corner n M) (sought At (corner n M) (levels n) f 0 0) ≡ verdict n M
+  -- the references tell the corner and zero from other entries
+  pub record Tells (l : Bits) : Type 0 where
+    pub entry-is : entry-of (f l / 2) ≡ g l
+    pub tells-corner : eqb (f l) (task .corner) ≡ same-entry (g l) (corner n M)
+    pub tells-zero : eqb (f l) (task .zero) ≡ same-entry (g l) 𝟘
+
+  pub sought-verdict : ((l : Bits) → length l ≡ levels n → Tells l) → answered entry-of (corner n M) (sought At task (levels n) f 0 0) ≡ verdict n M
   unfolding sought verdict
-  sought-verdict =
-      ap (λ (o : Option Bits). answered (corner n M) (found-from At f 0 0 o))
-      (lowest-ext (levels n) (forbids-from (corner n M) f 0 0) (forbids n M) forbids-same)
-      ∙ at-lowest (levels n) (forbids n M) (λ o. answered (corner n M) (found-from At f 0 0 o)) (verdict-by n M) refl different
+  sought-verdict tells =
+      ap (λ (o : Option Bits). answered entry-of (corner n M) (found-from At f 0 0 o))
+      (lowest-ext (levels n) (forbids-from task f 0 0) (forbids n M) forbids-same)
+      ∙ at-lowest (levels n) (forbids n M) (λ o. answered entry-of (corner n M) (found-from At f 0 0 o)) (verdict-by n M) refl different
     where
-      forbids-same : (l : Bits) → length l ≡ levels n → forbids-from (corner n M) f 0 0 l ≡ forbids n M l
+      tested : (l : Bits) → Tells l → (t : Bool) → eqb (f l) (cond t (task .corner) (task .zero)) ≡ same-entry (g l) (cond t (corner n M) 𝟘)
+      tested l tell true = tell .tells-corner
+      tested l tell false = tell .tells-zero
+
+      forbids-same : (l : Bits) → length l ≡ levels n → forbids-from task f 0 0 l ≡ forbids n M l
       forbids-same l e =
           let h = length-halves n l e in
-          ap₂ (λ (m : Bits) (t : Bool). not (same-entry (f m) (cond t (corner n M) 𝟘))) (sym (halves-place n l e))
-          (onward-eqb 0 0 (rows l) (columns l) (h .0 ∙ sym (h .1)))
+          ap (λ (t : Bool). not (eqb (f l) (cond t (task .corner) (task .zero)))) (onward-eqb 0 0 (rows l) (columns l) (h .0 ∙ sym (h .1)))
+          ∙ ap not (tested l (tells l e) (same (rows l) (columns l)))
+          ∙ ap (λ (m : Bits). not (same-entry (g m) (cond (same (rows l) (columns l)) (corner n M) 𝟘))) (sym (halves-place n l e))
 
-      different : (l : Bits) → length l ≡ levels n → answered (corner n M) (found-from At f 0 0 (some l)) ≡ verdict-by n M (some l)
+      different : (l : Bits) → length l ≡ levels n → answered entry-of (corner n M) (found-from At f 0 0 (some l)) ≡ verdict-by n M (some l)
       different l e = λ i. Different (record {
         row = number-onward (rows l) i;
         column = number-onward (columns l) i;
-        entry = f (sym (halves-place n l e) i);
+        entry = (tells l e .entry-is ∙ ap g (sym (halves-place n l e))) i;
         corner = corner n M;
       })
+
+-- what is found is one of the references that f lands on
+pub sought-lands : (task : Task) (k : ℕ) (f : Bits → ℕ) (P : ℕ → Type 0) → ((l : Bits) → length l ≡ k → P (f l))
+    → {x y v : ℕ} → sought At task k f 0 0 ≡ At x y v → P v
+unfolding sought
+sought-lands task k f P lands {x} {y} {v} e = by-search (lowest k (forbids-from task f 0 0)) (lowest-searched k (forbids-from task f 0 0)) e
+  where
+    by-search : (o : Option Bits) → Searched k (forbids-from task f 0 0) o → found-from At f 0 0 o ≡ At x y v → P v
+    by-search o (nowhere clear) e = let impossible : _≡_ {A = ℕ} 0 1 = cc in absurd (omega arith)
+    by-search o (least {l = l} low) e = let is : f l ≡ v = cc in subst P is (lands l (low .long))

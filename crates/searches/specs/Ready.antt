@@ -3,11 +3,12 @@ use mathlib.Core.Path.{_≡_}
 use mathlib.Core.Bool.{true, false}
 use mathlib.Core.List.{List}
 use Prim.Native.Nat.{ℕ, zero, suc, _+_, _*_, _-_, _/_, _%_, _^_, _<_, _≤_}
-use lib.ListN.{length}
+use lib.ListN.{length, getD}
 use Rattle.algebra.specs.Entry.{𝟘}
-use Rattle.diagrams.specs.Diagram.{ref-of, Tidy, From, levels}
-use Rattle.diagrams.specs.Columns.{Columns, NodeColumns, ValueColumns, zero-ref}
-use Rattle.diagrams.proofs.Unique.{Seen, Closed}
+use Rattle.diagrams.specs.Diagram.{Tidy, levels}
+use Rattle.diagrams.specs.Columns.{Columns, NodeColumns, ValueColumns}
+use Rattle.diagrams.specs.UniqueTable.{full}
+use Rattle.diagrams.proofs.Unique.{Closed}
 use Rattle.searches.specs.declared.Found.the-variants.{Nowhere}
 use Rattle.searches.specs.declared.Task.{Task}
 use Rattle.searches.specs.Slots.{store-in, cofactor}
@@ -44,43 +45,40 @@ pub record Searchable (n nodes values : ℕ) (cols : Columns) : Type 0 where
 
 -- ---- where the search stands
 
--- a reference to a used slot, at the first of the levels left or past it
-pub record Standing (cols : Columns) (task : Task) (left r : ℕ) : Type 0 where
-  pub within : left ≤ task .levels
-  pub seen : Seen (ref-of r) (task .nodes) (task .values)
-  pub from : From (store-in (task .nodes) (task .values) cols) (task .levels - left) (ref-of r)
+-- where r is a node, it is one of the used ones
+abbrev pub Used : ℕ → ℕ → Type 0
+Used nodes r = r % 2 ≡ 1 → r / 2 < nodes
 
 -- the number's bits, with more of the levels left, still fit a word
 abbrev pub Room : ℕ → ℕ → Type 0
 Room left x = suc x * 2 ^ left ≤ 4294967296
 
-pub record Sound (cols : Columns) (task : Task) : Type 0 where
-  pub qubits : ℕ
-  pub levels-are : task .levels ≡ levels qubits
-  pub searchable : Searchable qubits (task .nodes) (task .values) cols
+module _ (level low high : List ℕ) (task : Task) where
+  -- the used nodes stand in the columns, and so do their children; the zero, if there is one, is a value
+  pub record Sound : Type 0 where
+    pub few-nodes : task .nodes ≤ 65536
+    pub few-levels : task .levels ≤ 32
+    pub node-columns : NodeColumns level low high (task .nodes)
+    pub closed : (i : ℕ) → i < task .nodes → Used (task .nodes) (getD low i 0) × Used (task .nodes) (getD high i 0)
+    pub zero-value : task .zero % 2 ≡ 1 → task .zero ≡ full
 
--- the corner's reference is to a value in use, and the zero's to the value that is zero, if there is one
-pub record Terminals (cols : Columns) (task : Task) : Type 0 where
-  pub corner-even : task .corner % 2 ≡ 1 → ⊥
-  pub corner-used : task .corner / 2 < task .values
-  pub zero-is : task .zero ≡ zero-ref (store-in (task .nodes) (task .values) cols .values)
+  pub record Ready (left r row column : ℕ) : Type 0 where
+    pub sound : Sound
+    pub within : left ≤ task .levels
+    pub used : Used (task .nodes) r
+    pub row-room : Room left row
+    pub column-room : Room left column
 
-pub record Ready (cols : Columns) (task : Task) (left r row column : ℕ) : Type 0 where
-  pub sound : Sound cols task
-  pub terminals : Terminals cols task
-  pub standing : Standing cols task left r
-  pub row-room : Room left row
-  pub column-room : Room left column
+  -- at the question about a row bit
+  pub record Row-ready (left r row column : ℕ) : Type 0 where
+    pub ready : Ready left r row column
+    pub qubits-left : ℕ
+    pub whole : left ≡ levels qubits-left
 
--- at the question about a row bit
-pub record Row-ready (cols : Columns) (task : Task) (left r row column : ℕ) : Type 0 where
-  pub ready : Ready cols task left r row column
-  pub qubits-left : ℕ
-  pub whole : left ≡ levels qubits-left
-
--- at the question about a column bit; it is known that nothing is found on the high side if that is `clean`
-pub record Column-ready (cols : Columns) (task : Task) (left r clean row column : ℕ) : Type 0 where
-  pub ready : Ready cols task left r row column
-  pub qubits-left : ℕ
-  pub half : left ≡ suc (levels qubits-left)
-  pub known : child cols task left true r ≡ clean → row-sought cols task (left - 1) (child cols task left true r) row (2 * column + 1) ≡ Nowhere
+  -- at the question about a column bit; it is known that nothing is found on the high side if that is `clean`
+  pub record Column-ready (left r clean row column : ℕ) : Type 0 where
+    pub ready : Ready left r row column
+    pub qubits-left : ℕ
+    pub half : left ≡ suc (levels qubits-left)
+    pub known : let high-side = child level low high task left true r in
+        high-side ≡ clean → row-sought level low high task (left - 1) high-side row (2 * column + 1) ≡ Nowhere
