@@ -52,13 +52,13 @@ module _ {X : Type 0} (s : Store X) where
           let e : i ≡ n = omega arith in
           subst (λ (m : ℕ). Both (λ r. Seen r (suc i) j) (node-at s m)) e (more i last)
 
-  record Walked (r : Ref) (i j i′ j′ : ℕ) : Type 0 where
-    more-nodes : i ≤ i′
-    more-values : j ≤ j′
-    seen : Seen r i′ j′
-    closed : Closed i′ j′
+  pub record Walked (r : Ref) (i j i′ j′ : ℕ) : Type 0 where
+    pub more-nodes : i ≤ i′
+    pub more-values : j ≤ j′
+    pub seen : Seen r i′ j′
+    pub closed : Closed i′ j′
 
-  walked : {r : Ref} {i j i′ j′ : ℕ} → Walk s r i j i′ j′ → Closed i j → Walked r i j i′ j′
+  pub walked : {r : Ref} {i j i′ j′ : ℕ} → Walk s r i j i′ j′ → Closed i j → Walked r i j i′ j′
   walked (old-value h) closed = record { more-nodes = omega arith; more-values = omega arith; seen = h; closed = closed }
   walked (new-value {i = i} {j = j}) closed = record {
     more-nodes = omega arith;

@@ -1,0 +1,28 @@
+-- The store in the first slots of lent columns, and the way down in it. Definitions only; their laws are in proofs/Slots.antt.
+use mathlib.Core.Bool.{Bool, cond}
+use mathlib.Core.List.{List, [], _∷_}
+use Prim.Native.Nat.{ℕ, suc, _/_, _%_}
+use lib.Dec.{eqb}
+use lib.ListN.{getD}
+use Rattle.algebra.specs.declared.Entry.{Entry}
+use Rattle.algebra.specs.Matrix.{Bits}
+use Rattle.diagrams.specs.Diagram.{Store, holding}
+use Rattle.diagrams.specs.Columns.{Columns, entry-of, entries-of}
+use Rattle.diagrams.specs.UniqueTable.{nodes-in}
+
+-- the nodes and the values in so many slots from 0 up
+abbrev pub store-in : ℕ → ℕ → Columns → Store Entry
+store-in nodes values cols =
+    holding (nodes-in nodes (cols .level) (cols .low) (cols .high)) (entries-of (cols .a) (cols .b) (cols .c) (cols .d) values)
+
+abbrev pub value-at : Columns → ℕ → Entry
+value-at cols j = entry-of (cols .a) (cols .b) (cols .c) (cols .d) j
+
+-- "going low where the bit asked for is 0 and high where it is 1"; a reference that does not ask for the level stays
+abbrev pub cofactor : List ℕ → List ℕ → List ℕ → ℕ → Bool → ℕ → ℕ
+cofactor level low high asked b r = cond (eqb (r % 2) 1) (cond (eqb (getD level (r / 2) 0) asked) (getD (cond b high low) (r / 2) 0) r) r
+
+-- the reference reached by the bits of the levels from `asked` on
+abbrev pub landing : List ℕ → List ℕ → List ℕ → ℕ → ℕ → Bits → ℕ
+landing level low high asked r [] = r
+landing level low high asked r (b ∷ l) = landing level low high (suc asked) (cofactor level low high asked b r) l
