@@ -1,16 +1,15 @@
 -- Columns that hold a matrix's reduced diagram: they are searchable, and the verdict that they give is the matrix's.
 -- Assumes nothing.
-use mathlib.Core.Path.{_≡_, refl, sym, _∙_, ap, subst, subst₂}
+use mathlib.Core.Path.{_≡_, sym, _∙_, ap, subst, subst₂}
 use mathlib.Core.List.{List, _++_, map}
-use Prim.Native.Nat.{ℕ, zero, suc, _-_, _<_, _≤_}
+use Prim.Native.Nat.{ℕ, _-_, _<_, _≤_}
 use native.Mathlib.Omega.{arith}
-use lib.IntN.{pos}
-use lib.ListN.{length, getD, replicate, length-map, List·getD-append, List·getD-map}
+use lib.ListN.{length, getD, length-map, List·getD-append, List·getD-map}
 use lib.Seq.{ext-getD}
 use Rattle.algebra.specs.declared.Entry.{Entry}
 use Rattle.algebra.specs.Entry.{𝟘, entry}
 use Rattle.algebra.specs.Matrix.{Matrix}
-use Rattle.diagrams.specs.Diagram.{Ref, node, code, ref-of, Node, branch, Store, holding, Diagram, unused, Tidy, levels, diagram}
+use Rattle.diagrams.specs.Diagram.{Ref, node, code, ref-of, Node, branch, Store, holding, unused, Tidy, levels, diagram}
 use Rattle.diagrams.specs.Columns.{Columns, columns, held, NodeColumns, ValueColumns}
 use Rattle.diagrams.specs.UniqueTable.{listed, node-in}
 use Rattle.diagrams.proofs.Unique.{Closed, walked}

@@ -2,7 +2,7 @@
 -- Assumes nothing.
 use mathlib.Core.Path.{_≡_, refl, sym, _∙_, ap, ap₂, subst}
 use mathlib.Core.Bool.{Bool, true, false, cond, true≢false}
-use mathlib.Core.List.{List, [], _∷_}
+use mathlib.Core.List.{List, _∷_}
 use Prim.Native.Nat.{ℕ, zero, suc, _+_, _*_, _-_, _%_, _^_, _<_, _≤_}
 use native.Mathlib.Nat.{pow-suc, mul-le-mul-left}
 use native.Mathlib.Omega.{arith}
@@ -19,7 +19,7 @@ use Rattle.searches.specs.declared.Found.the-variants.{Nowhere, At}
 use Rattle.searches.specs.declared.Task.{Task}
 use Rattle.searches.specs.Slots.{cofactor, landing}
 use Rattle.searches.specs.Search.{sought, behind, child, row-sought, column-sought, is-settled}
-use Rattle.searches.specs.Ready.{Used, Room, Sound, Ready, Row-ready, Column-ready}
+use Rattle.searches.specs.Ready.{Used, Room, Sound, Row-ready, Column-ready}
 use Rattle.searches.proofs.Blocks.{eqb-iff, first-of, Ends, sought-cons, first-nowhere, nowhere-again, zero-nowhere, sought-end}
 use Rattle.searches.proofs.Slots.{landing-value, used-down, full-unused}
 

@@ -14,11 +14,10 @@ use Rattle.algebra.specs.Entry.{𝟘}
 use Rattle.algebra.specs.Matrix.{Bits, Matrix, same}
 use Rattle.diagrams.specs.Diagram.{levels, place, rows, columns, entries, same-entry}
 use Rattle.diagrams.proofs.Places.{length-halves}
-use Rattle.miters.specs.declared.Difference.{Difference}
 use Rattle.miters.specs.declared.Verdict.{Verdict}
 use Rattle.miters.specs.declared.Verdict.the-variants.{Equal, Different}
 use Rattle.miters.specs.Miter.{corner}
-use Rattle.miters.specs.Report.{number, forbids, lowest, difference, verdict-by, verdict}
+use Rattle.miters.specs.Report.{number, forbids, lowest, verdict-by, verdict}
 use Rattle.miters.proofs.Verdicts.{Searched, nowhere, least, lowest-searched}
 use Rattle.searches.specs.declared.Found.{Found}
 use Rattle.searches.specs.declared.Found.the-variants.{Nowhere, At}
