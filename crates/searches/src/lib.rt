@@ -90,8 +90,8 @@ fn settled(task: Task, left: u32, r: u32, row: u32, column: u32) -> bool
 // and `column`; the place is on the diagonal if they are one number.
 //
 // A block off the diagonal is searched only where it is not zero, so it is one way down. On the diagonal the high block is not
-// searched if it is the low one, in which nothing was found; all places forbid nothing only if it is. So a search takes one
-// way down a level at the most, beside the one that goes on.
+// searched where it is the low one, in which nothing was found; where it is another, it has a place that forbids, since a
+// reduced diagram has one reference for a block. So a level costs one clean way down at the most, beside the search that goes on.
 fn ask_row(
     level: &[u32],
     low: &[u32],
