@@ -1,24 +1,23 @@
 -- Unique tables of nodes: what lent columns hold as a node is found or appended.
 -- Assumes nothing.
 use mathlib.Core.Path.{_≡_, refl, sym, _∙_, ap, ap₂}
-use mathlib.Core.Bool.{Bool, true, false, cond, _&&_, and-true, and-false}
+use mathlib.Core.Bool.{Bool, false, _&&_, and-true, and-false}
 use mathlib.Core.Logic.{_≢_}
 use mathlib.Core.List.{List, [], _∷_, _++_}
 use Prim.Native.Nat.{ℕ, _+_, _*_, _-_, _<_, _≤_}
-use native.Mathlib.Decide.{decLe}
 use native.Mathlib.Numerals.{add-one}
 use native.Mathlib.Omega.{arith}
 use lib.Dec.{eqb}
 use lib.ListN.{length, getD, set, drop, length-set, length-append}
 use lib.Seq.{getD-set-same, getD-set-other, drop-set-lt}
 use borrow.Author.Tests.{ne-eqb, eq-eqb}
-use Rattle.diagrams.specs.Diagram.{Node, branch, unused, code, ref-of, Store, Diagram, rooted, same-ref, same-node, keep, put-node, make-node}
+use Rattle.diagrams.specs.Diagram.{Node, branch, unused, ref-of, same-node}
 use Rattle.diagrams.specs.UniqueTable.{full, node-in, nodes-in, found, node-hash, NodesHeld, NodePut, NodeMade}
 use Rattle.diagrams.proofs.References.{code-ref-of, ref-of-injective}
-use Rattle.diagrams.proofs.Tests.{false-apart, ref-decides, node-decides}
+use Rattle.diagrams.proofs.Tests.{node-decides}
 use Rattle.diagrams.proofs.Keeping.{Absent}
 use Rattle.diagrams.proofs.Hashes.{node-hash-below}
-use Rattle.diagrams.proofs.Chains.{listed-snoc, keep-grows, put-there, put-next, put-full, indexed-snoc}
+use Rattle.diagrams.proofs.Chains.{listed-snoc, put-there, put-next, put-full, indexed-snoc}
 
 -- ---- the test of a node, number by number
 
@@ -115,44 +114,3 @@ module _ {N heads : ℕ} {ns : List Node} {level low high index : List ℕ} (hel
       where
         past : (l : List ℕ) (a : ℕ) → drop (length (ns ++ (wanted ∷ []))) (set l used a) ≡ drop (length (ns ++ (wanted ∷ []))) l
         past l a = drop-set-lt (length (ns ++ (wanted ∷ []))) l used a (omega (arith, length-append ns (wanted ∷ [])))
-
--- ---- in a store
-
--- what `make_node` asks for, where a store's nodes are held
-pub node-table : {N heads : ℕ} {ns : List Node} {level low high index : List ℕ} (used : ℕ) → used ≡ length ns → NodesHeld N heads ns level low high index
-    → NodesHeld (length level) heads (nodes-in used level low high) level low high index
-node-table used u held = rw (u, held .nodes, held .level-long) held
-
--- The diagram that making a node gives: the columns hold its nodes and r is its root, or there is no room for it.
-pub data NodeStored {X : Type 0} (N heads : ℕ) (D : Diagram X) (r : ℕ) (level low high index : List ℕ) : Type 0 where
-  stored : length (D .store .nodes) ≤ N → r ≡ code (D .root) → NodesHeld N heads (D .store .nodes) level low high index
-      → NodeStored N heads D r level low high index
-  no-room : N < length (D .store .nodes) → r ≡ full → NodeStored N heads D r level low high index
-
-module _ {X : Type 0} {N heads : ℕ} {level low high index : List ℕ} {r : ℕ} {level′ low′ high′ index′ : List ℕ} (n : Node) (s : Store X) (used : ℕ) where
-  pub node-stored : used ≡ length (s .nodes) → NodesHeld N heads (s .nodes) level low high index
-      → NodeMade level low high index level′ low′ high′ index′ (length level) heads n (nodes-in used level low high) r
-      → NodeStored N heads (make-node n s) r level′ low′ high′ index′
-  node-stored u held made = by-test (same-ref (n .low) (n .high)) refl (rw (u, held .nodes, held .level-long) at made)
-    where
-      by-test : (t : Bool) → same-ref (n .low) (n .high) ≡ t → NodeMade level low high index level′ low′ high′ index′ N heads n (s .nodes) r
-          → NodeStored N heads (cond t (rooted s (n .low)) (put-node n s)) r level′ low′ high′ index′
-      by-test true e made =
-          let (answer, same) = made .alike (ref-decides .sound (n .low) (n .high) e) in
-          stored (held .indexed .room) answer (rw (same .0, same .1, same .2, same .3) held)
-      by-test false e made = by-room (made .apart (false-apart ref-decides (n .low) (n .high) e)) (decLe (length (keep same-node n (s .nodes))) N)
-        where
-          by-room : NodePut level low high index level′ low′ high′ index′ N heads n (s .nodes) r
-              → Dec (length (keep same-node n (s .nodes)) ≤ N) → NodeStored N heads (put-node n s) r level′ low′ high′ index′
-          by-room put (yes fits) = let (answer, after) = put .kept fits in stored fits answer (after .0)
-          by-room put (no over) = no-room (omega arith) (put .missing (omega arith) .0)
-
--- whether a slot was taken shows in the reference
-pub node-grows : {X : Type 0} (n : Node) (s : Store X) → (code (n .low) ≡ 2 * length (s .nodes) + 1 → ⊥)
-    → length (make-node n s .store .nodes) ≡ cond (eqb (code (make-node n s .root)) (2 * length (s .nodes) + 1)) (length (s .nodes) + 1) (length (s .nodes))
-node-grows n s old = by-test (same-ref (n .low) (n .high))
-  where
-    by-test : (t : Bool) → let D = cond t (rooted s (n .low)) (put-node n s) in
-        length (D .store .nodes) ≡ cond (eqb (code (D .root)) (2 * length (s .nodes) + 1)) (length (s .nodes) + 1) (length (s .nodes))
-    by-test true = rw (ne-eqb (code (n .low)) (2 * length (s .nodes) + 1) old)
-    by-test false = keep-grows node-decides unused n (s .nodes) (λ i. 2 * i + 1) (λ i j e. omega arith)

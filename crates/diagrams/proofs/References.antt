@@ -22,9 +22,5 @@ code-ref-of c = by-parity (eqb (c % 2) 1) refl
 pub ref-of-code : (r : Ref) → ref-of (code r) ≡ r
 ref-of-code r = code-injective (ref-of (code r)) r (code-ref-of (code r))
 
--- a node read by its numbers
-pub branch-of-codes : (level : ℕ) (low high : Ref) {lo hi : ℕ} → lo ≡ code low → hi ≡ code high → branch level (ref-of lo) (ref-of hi) ≡ branch level low high
-branch-of-codes level low high p q = rw (p, q, ref-of-code low, ref-of-code high)
-
 pub ref-of-injective : (c d : ℕ) → ref-of c ≡ ref-of d → c ≡ d
 ref-of-injective c d e = sym (code-ref-of c) ∙ ap code e ∙ code-ref-of d

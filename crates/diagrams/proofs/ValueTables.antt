@@ -1,11 +1,10 @@
 -- Unique tables of terminals: what lent slots hold as a terminal is found or appended.
 -- Assumes nothing.
 use mathlib.Core.Path.{_≡_, refl, sym, _∙_, ap}
-use mathlib.Core.Bool.{Bool, true, false, cond}
+use mathlib.Core.Bool.{Bool, true, false}
 use mathlib.Core.List.{List, [], _∷_, _++_}
 use mathlib.Core.Logic.{_≢_}
-use Prim.Native.Nat.{ℕ, _+_, _*_, _-_, _/_, _^_, _<_, _≤_}
-use native.Mathlib.Decide.{decLe}
+use Prim.Native.Nat.{ℕ, _+_, _*_, _-_, _^_, _<_, _≤_}
 use native.Mathlib.Numerals.{add-one}
 use native.Mathlib.Omega.{arith}
 use borrow.Author.Tests.{ne-eqb, eq-eqb}
@@ -19,12 +18,12 @@ use mir.Syntax.{w32}
 use mir.Val.{toZ, ofZ}
 use Rattle.algebra.specs.declared.Entry.{Entry}
 use Rattle.algebra.specs.Entry.{𝟘}
-use Rattle.diagrams.specs.Diagram.{code, Store, Diagram, same-number, same-entry, keep, put-value}
+use Rattle.diagrams.specs.Diagram.{same-number, same-entry}
 use Rattle.diagrams.specs.UniqueTable.{full, found, entry-in, with-entry, values-in, value-hash, ValuesHeld, ValueMade}
 use Rattle.diagrams.proofs.Tests.{false-apart, number-decides, entry-decides}
 use Rattle.diagrams.proofs.Keeping.{Absent}
 use Rattle.diagrams.proofs.Hashes.{value-hash-below}
-use Rattle.diagrams.proofs.Chains.{listed-snoc, keep-grows, put-there, put-next, put-full, indexed-snoc}
+use Rattle.diagrams.proofs.Chains.{listed-snoc, put-there, put-next, put-full, indexed-snoc}
 
 -- ---- the test of a terminal, number by number
 
@@ -158,34 +157,3 @@ module _ {L heads : ℕ} {vs : List Entry} {vals : List ℤ} {index : List ℕ} 
           next-held used first u below (rw h at at-head) absent,
           slots-past vals used e (4 * length (vs ++ (e ∷ []))) (omega (arith, length-append vs (e ∷ []))),
         ))
-
--- ---- in a store
-
-quarter : {n L : ℕ} → n ≡ 4 * L → n / 4 ≡ L
-quarter e = omega arith
-
--- what `make_value` asks for, where a store's values are held
-pub value-table : {L heads : ℕ} {vs : List Entry} {vals : List ℤ} {index : List ℕ} (used : ℕ) → used ≡ length vs → ValuesHeld L heads vs vals index
-    → ValuesHeld (length vals / 4) heads (values-in used vals) vals index
-value-table used u held = rw (u, held .values, quarter (held .vals-long)) held
-
--- The diagram that making a terminal gives: the slots hold its values and r is its root, or there is no room for it.
-pub data ValueStored (L heads : ℕ) (D : Diagram Entry) (r : ℕ) (vals : List ℤ) (index : List ℕ) : Type 0 where
-  stored : length (D .store .values) ≤ L → r ≡ code (D .root) → ValuesHeld L heads (D .store .values) vals index → ValueStored L heads D r vals index
-  no-room : L < length (D .store .values) → r ≡ full → ValueStored L heads D r vals index
-
-module _ {L heads : ℕ} {vals vals′ : List ℤ} {index index′ : List ℕ} {r : ℕ} (e : Entry) (s : Store Entry) (used : ℕ) where
-  pub value-stored : used ≡ length (s .values) → ValuesHeld L heads (s .values) vals index
-      → ValueMade vals index vals′ index′ (length vals / 4) heads e (values-in used vals) r
-      → ValueStored L heads (put-value same-entry e s) r vals′ index′
-  value-stored u held made = by-room (rw (u, held .values, quarter (held .vals-long)) at made) (decLe (length (keep same-entry e (s .values))) L)
-    where
-      by-room : ValueMade vals index vals′ index′ L heads e (s .values) r → Dec (length (keep same-entry e (s .values)) ≤ L)
-          → ValueStored L heads (put-value same-entry e s) r vals′ index′
-      by-room put (yes fits) = let (answer, after) = put .kept fits in stored fits answer (after .0)
-      by-room put (no over) = no-room (omega arith) (put .missing (omega arith) .0)
-
--- whether a slot was taken shows in the reference
-pub value-grows : (e : Entry) (s : Store Entry) → let D = put-value same-entry e s in
-    length (D .store .values) ≡ cond (eqb (code (D .root)) (2 * length (s .values))) (length (s .values) + 1) (length (s .values))
-value-grows e s = keep-grows entry-decides 𝟘 e (s .values) (λ j. 2 * j) (λ i j p. omega arith)

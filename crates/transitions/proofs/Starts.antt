@@ -2,9 +2,8 @@
 -- Assumes nothing.
 use mathlib.Core.Path.{_≡_, refl, sym, _∙_, ap, ap₂, subst, fun-ext, _≡⟨_⟩_, _∎}
 use mathlib.Core.Bool.{Bool, true, false, not, cond, true≢false}
-use Prim.Native.Nat.{ℕ, zero, suc, _+_, _-_, _*_, _<_, _≤_, zero-le}
+use Prim.Native.Nat.{ℕ, zero, _+_, _-_, _*_, _<_, _≤_, zero-le}
 use native.Mathlib.Nat.{zero-add, sub-zero}
-use native.Mathlib.Decide.{decLt}
 use native.Mathlib.Omega.{arith}
 use lib.Dec.{eqb}
 use lib.ListN.{length, getD, set, length-set}
@@ -18,10 +17,10 @@ use Rattle.gates.specs.declared.Rule.{Rule}
 use Rattle.gates.specs.Gate.{X, Y, Z, H, S, S†, T, T†, Pair, CNOT, CZ, Gate, on, pair, is, bit, Fits}
 use Rattle.gates.specs.Rule.{phases, phase, pair-rule, gate-rule, controls, target, all-set, mixed, moved, acted}
 use Rattle.gates.proofs.Naming.{is-refl, is-sound}
-use Rattle.diagrams.specs.Diagram.{Ref, node, code, Store, node-at, Both, Walk, old-value, new-value, old-node, new-node, reached, ref-of}
+use Rattle.diagrams.specs.Diagram.{Ref, code, Store, reached, ref-of}
 use Rattle.diagrams.specs.Diagram.{levels, entries, same-entry, empty, reduce, diagram}
 use Rattle.diagrams.proofs.Again.{reduce-ext}
-use Rattle.diagrams.proofs.Unique.{Seen, seen-more, both-map}
+use Rattle.diagrams.proofs.Unique.{Walked, walked}
 use Rattle.diagrams.proofs.Places.{levels-double}
 use Rattle.diagrams.proofs.Diagrams.{diagram-reduced}
 use Rattle.diagrams.proofs.References.{ref-of-code}
@@ -39,39 +38,12 @@ use Rattle.transitions.proofs.Walks.{everywhere-ext, made-from, inside-
 
 -- ---- a numbered store refers to itself
 
--- what a walk numbers has its children among what it numbers
-record Grown (s : Store Entry) (r : Ref) (i j i′ j′ : ℕ) : Type 0 where
-  more-nodes : i ≤ i′
-  more-values : j ≤ j′
-  seen : Seen r i′ j′
-  new : (n : ℕ) → i ≤ n → n < i′ → Both (λ t. Seen t i′ j′) (node-at s n)
-
-grown : (s : Store Entry) {r : Ref} {i j i′ j′ : ℕ} → Walk s r i j i′ j′ → Grown s r i j i′ j′
-grown s (old-value h) = record { more-nodes = omega arith; more-values = omega arith; seen = h; new = λ n p q. absurd (omega arith) }
-grown s (new-value {i = i} {j = j}) = record { more-nodes = omega arith; more-values = omega arith; seen = omega arith; new = λ n p q. absurd (omega arith) }
-grown s (old-node h) = record { more-nodes = omega arith; more-values = omega arith; seen = h; new = λ n p q. absurd (omega arith) }
-grown s (new-node {i = i} {j = j} {i₁ = i₁} {j₁ = j₁} {n = n} {j′ = j′} low high) = by-children (grown s low) (grown s high)
+-- the root is in the diagram's store, and so are the children of all its nodes
+diagram-closed : (n : ℕ) (M : Matrix) → let D = diagram n M in Walked (D .store) (D .root) 0 0 (length (D .store .nodes)) (length (D .store .values))
+diagram-closed n M = walked (diagram n M .store) (diagram-reduced n M .numbered) (λ i h. absurd (none-below i h))
   where
-    by-children : Grown s (node-at s n .low) i j i₁ j₁ → Grown s (node-at s n .high) i₁ j₁ n j′ → Grown s (node n) i j (suc n) j′
-    by-children l h = record {
-      more-nodes = omega arith;
-      more-values = omega arith;
-      seen = omega arith;
-      new = λ m p q. by-order m p q (decLt m i₁) (decLt m n);
-    }
-      where
-        from-low : (t : Ref) → Seen t i₁ j₁ → Seen t (suc n) j′
-        from-low = seen-more i₁ j₁ (suc n) j′ (omega arith) (h .more-values)
-
-        from-high : (t : Ref) → Seen t n j′ → Seen t (suc n) j′
-        from-high = seen-more n j′ (suc n) j′ (omega arith) (omega arith)
-
-        by-order : (m : ℕ) → i ≤ m → m < suc n → Dec (m < i₁) → Dec (m < n) → Both (λ t. Seen t (suc n) j′) (node-at s m)
-        by-order m p q (yes u) w = both-map (node-at s m) from-low (l .new m p u)
-        by-order m p q (no u) (yes w) = both-map (node-at s m) from-high (h .new m (omega arith) w)
-        by-order m p q (no u) (no w) =
-            let last : n ≡ m = omega arith in
-            subst (λ (k : ℕ). Both (λ t. Seen t (suc n) j′) (node-at s k)) last (from-low (node-at s n .low) (l .seen), from-high (node-at s n .high) (h .seen))
+    none-below : (i : ℕ) → i < 0 → ⊥
+    none-below i h = omega arith
 
 -- ---- a gate's data
 
@@ -234,7 +206,7 @@ plan-valid n right g M plan fits for is-zero =
     record {
       levels-below = λ i h. let up-to = 𝓡 .reduced .tidy .levels-below i h in let all = for .levels-are in omega arith;
       levels-rise = 𝓡 .reduced .tidy .levels-rise;
-      closed = λ i h. grown (diagram n M .store) (𝓡 .numbered) .new i zero-le h;
+      closed = diagram-closed n M .closed;
       few-stages = omega arith;
       has-target = at .has-target;
       stages-ascend = at .ascend;
@@ -315,7 +287,7 @@ module _ (n : ℕ) (right : Bool) (g : Gate) (M : Matrix) (plan : Plan) (fits : 
 
   start-sound : SoundAt plan source 0 (start root)
   start-sound =
-      let seen = grown source (diagram-reduced n M .numbered) .seen in
+      let seen = diagram-closed n M .seen in
       let asks : Asks plan source 0 (code root) = record { refers = rw (ref-of-code root) seen; from = zero-le } in
       sound-on plan source 0 (waiting 0) (code root) (code root) (omega arith)
       (record { x-asks = asks; y-asks = asks; suits = (zero-le, refl, λ j h. absurd (none j h)); ahead = zero-le })
