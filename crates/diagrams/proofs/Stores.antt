@@ -1,21 +1,22 @@
 -- Stores in their columns: what is written and published there, what wiping leaves, and when a store is held.
 -- Assumes nothing.
 use mathlib.Core.Path.{_≡_, refl, sym, _∙_, ap, ap₂, _≡⟨_⟩_, _∎}
-use mathlib.Core.List.{List, map}
-use Prim.Native.Nat.{ℕ, _+_, _*_, _≤_}
+use mathlib.Core.List.{List, map, _++_}
+use Prim.Native.Nat.{ℕ, _+_, _*_, _<_, _≤_}
 use native.Mathlib.Nat.{add-zero}
 use native.Mathlib.Omega.{arith}
 use lib.IntN.{ℤ, pos}
-use lib.ListN.{length, getD, take, drop, length-append, length-drop, length-map}
-use lib.Seq.{take-at}
+use lib.ListN.{length, getD, take, drop, length-append, length-drop, length-map, take-append-drop, List·getD-append, List·getD-map}
+use lib.Seq.{take-at, ext-getD}
 use Rattle.algebra.specs.declared.Entry.{Entry}
-use Rattle.diagrams.specs.Diagram.{Node, code, Store, holding}
+use Rattle.algebra.specs.Entry.{entry, 𝟘}
+use Rattle.diagrams.specs.Diagram.{Node, branch, unused, code, ref-of, Store, holding}
 use Rattle.diagrams.specs.Columns.{Columns, columns, column, held, over, written, Begins, Holds, zeroed, wiped}
-use Rattle.diagrams.specs.Columns.{NodeColumns, NodesWritten, ValueColumns, Published}
-use Rattle.diagrams.specs.UniqueTable.{listed, node-in, nodes-in, NodesHeld, entry-in, values-in, ValuesHeld}
-use Rattle.diagrams.proofs.Chains.{listed-agree}
+use Rattle.diagrams.specs.Columns.{NodeColumns, NodesWritten, entry-of, entries-of, ValueColumns, Published}
+use Rattle.diagrams.specs.UniqueTable.{listed, node-in, nodes-in, entry-in, values-in}
+use Rattle.diagrams.proofs.Chains.{length-listed, getD-listed, listed-agree}
 use Rattle.diagrams.proofs.Filling.{map-listed, listed-take, zeroed-column}
-use Rattle.diagrams.proofs.References.{code-ref-of}
+use Rattle.diagrams.proofs.References.{code-ref-of, ref-of-code}
 
 -- ---- published
 
@@ -35,11 +36,6 @@ module _ (vals : List ℤ) (used : ℕ) where
     where
       parts : (f : Entry → ℤ) → listed used (λ j. f (entry-in vals j)) ≡ map f (values-in used vals)
       parts f = sym (map-listed f used (entry-in vals))
-
--- the terminals held are those published
-pub publishes : {L heads : ℕ} {vs : List Entry} {vals : List ℤ} {index : List ℕ} (used : ℕ) {a b c d a′ b′ c′ d′ : List ℤ}
-    → used ≡ length vs → ValuesHeld L heads vs vals index → Published (values-in used vals) a b c d a′ b′ c′ d′ → Published vs a b c d a′ b′ c′ d′
-publishes used u held p = rw (u, held .values) at p
 
 -- nodes and values written are a store written
 pub store-written : {ns : List Node} {vs : List Entry} {level low high level′ low′ high′ : List ℕ} {a b c d a′ b′ c′ d′ : List ℤ}
@@ -89,40 +85,47 @@ begins-by : {A B : Type 0} (f : A → B) {N : ℕ} (xs : List A) (l : List B) {l
     → length l ≡ N → length xs ≤ N → l′ ≡ over (map f xs) l → Begins f N xs l′
 begins-by f xs l long room e = rw e (begins-over f xs l long room)
 
--- a node column of a unique table begins with its nodes' numbers
-module _ {N heads : ℕ} {ns : List Node} {level low high index : List ℕ} (held : NodesHeld N heads ns level low high index) where
+-- a node column begins with the numbers of the nodes that stand in the columns
+module _ {N : ℕ} (ns : List Node) (level low high : List ℕ) (nodes : nodes-in (length ns) level low high ≡ ns) (room : length ns ≤ N) where
   begins-nodes : (f : Node → ℕ) (l : List ℕ) → length l ≡ N → ((i : ℕ) → getD l i 0 ≡ f (node-in level low high i)) → Begins f N ns l
   begins-nodes f l long numbers = record {
     long = long;
-    room = held .indexed .room;
+    room = room;
     first =
-        take (length ns) l ≡⟨ sym (listed-take l 0 (length ns) (omega (arith, held .indexed .room))) ⟩
+        take (length ns) l ≡⟨ sym (listed-take l 0 (length ns) (omega arith)) ⟩
         listed (length ns) (λ i. getD l i 0) ≡⟨ listed-agree (length ns) _ _ (λ i _. numbers i) ⟩
         listed (length ns) (λ i. f (node-in level low high i)) ≡⟨ sym (map-listed f (length ns) (node-in level low high)) ⟩
-        map f (nodes-in (length ns) level low high) ≡⟨ ap (map f) (held .nodes) ⟩
+        map f (nodes-in (length ns) level low high) ≡⟨ ap (map f) nodes ⟩
         map f ns ∎;
   }
+
+-- three columns have this length
+abbrev NodesLong : ℕ → List ℕ → List ℕ → List ℕ → Type 0
+NodesLong N level low high = (length level ≡ N) × (length low ≡ N) × (length high ≡ N)
 
 -- four columns have this length
 abbrev ValuesLong : ℕ → List ℤ → List ℤ → List ℤ → List ℤ → Type 0
 ValuesLong L a b c d = (length a ≡ L) × (length b ≡ L) × (length c ≡ L) × (length d ≡ L)
 
--- the nodes of a unique table and the terminals published are a store held
-pub table-holds : {N L heads : ℕ} {ns : List Node} {vs : List Entry} {level low high index : List ℕ} (a b c d : List ℤ) {a′ b′ c′ d′ : List ℤ}
-    → NodesHeld N heads ns level low high index → ValuesLong L a b c d → length vs ≤ L → Published vs a b c d a′ b′ c′ d′
-    → Holds N L (holding ns vs) (columns level low high a′ b′ c′ d′)
-table-holds {vs = vs} {level} {low} {high} a b c d held (p, q, r, s) room published = record {
-  of-level = begins-nodes held (λ n. n .level) level (held .level-long) (λ i. refl);
-  of-low = begins-nodes held (λ n. code (n .low)) low (held .low-long) (λ i. sym (code-ref-of (getD low i 0)));
-  of-high = begins-nodes held (λ n. code (n .high)) high (held .high-long) (λ i. sym (code-ref-of (getD high i 0)));
-  of-a = begins-by (λ x. x .a) vs a p room (published .of-a);
-  of-b = begins-by (λ x. x .b) vs b q room (published .of-b);
-  of-c = begins-by (λ x. x .c) vs c r room (published .of-c);
-  of-d = begins-by (λ x. x .d) vs d s room (published .of-d);
-}
+-- the nodes that stand in columns and the terminals published are a store held
+pub table-holds : {N L : ℕ} (s : Store Entry) (level low high : List ℕ) (a b c d : List ℤ) {a′ b′ c′ d′ : List ℤ}
+    → NodesLong N level low high → nodes-in (length (s .nodes)) level low high ≡ s .nodes → length (s .nodes) ≤ N
+    → ValuesLong L a b c d → length (s .values) ≤ L → Published (s .values) a b c d a′ b′ c′ d′
+    → Holds N L s (columns level low high a′ b′ c′ d′)
+table-holds s level low high a b c d (e, f, g) nodes few (p, q, r, t) room published =
+    let begins = begins-nodes (s .nodes) level low high nodes few in
+    record {
+      of-level = begins (λ n. n .level) level e (λ i. refl);
+      of-low = begins (λ n. code (n .low)) low f (λ i. sym (code-ref-of (getD low i 0)));
+      of-high = begins (λ n. code (n .high)) high g (λ i. sym (code-ref-of (getD high i 0)));
+      of-a = begins-by (λ x. x .a) (s .values) a p room (published .of-a);
+      of-b = begins-by (λ x. x .b) (s .values) b q room (published .of-b);
+      of-c = begins-by (λ x. x .c) (s .values) c r room (published .of-c);
+      of-d = begins-by (λ x. x .d) (s .values) d t room (published .of-d);
+    }
 
 -- so is a store written
-pub written-holds : {N L : ℕ} (s : Store Entry) (C : Columns) → (length (C .level) ≡ N) × (length (C .low) ≡ N) × (length (C .high) ≡ N)
+pub written-holds : {N L : ℕ} (s : Store Entry) (C : Columns) → NodesLong N (C .level) (C .low) (C .high)
     → ValuesLong L (C .a) (C .b) (C .c) (C .d) → length (s .nodes) ≤ N → length (s .values) ≤ L → Holds N L s (written s C)
 unfolding written
 written-holds s C (p, q, r) (t, u, v, w) nodes values = record {
@@ -151,3 +154,52 @@ wiped-held holds i = record {
   c = wiped-begins (pos 0) (holds .of-c) i;
   d = wiped-begins (pos 0) (holds .of-d) i;
 }
+
+-- ---- what held columns give back
+
+-- a slot has the number of its element
+begins-at : {A B : Type 0} (f : A → B) {N : ℕ} (xs : List A) (l : List B) (blank : A) → Begins f N xs l → (i : ℕ) → i < length xs
+    → getD l i (f blank) ≡ f (getD xs i blank)
+begins-at {B = B} f xs l blank begins i h =
+    getD l i (f blank) ≡⟨ ap (λ (m : List B). getD m i (f blank)) (sym (take-append-drop (length xs) l)) ⟩
+    getD (take (length xs) l ++ drop (length xs) l) i (f blank)
+    ≡⟨ ap (λ (m : List B). getD (m ++ drop (length xs) l) i (f blank)) (begins .first) ⟩
+    getD (map f xs ++ drop (length xs) l) i (f blank)
+    ≡⟨ List·getD-append (map f xs) (drop (length xs) l) (f blank) i (omega (arith, length-map xs f)) ⟩
+    getD (map f xs) i (f blank) ≡⟨ List·getD-map f xs i blank ⟩
+    f (getD xs i blank) ∎
+
+listed-all : {A : Type 0} (blank : A) (l : List A) (f : ℕ → A) → ((i : ℕ) → i < length l → f i ≡ getD l i blank) → listed (length l) f ≡ l
+listed-all blank l f is = ext-getD blank (listed (length l) f) l (length-listed (length l) f)
+    (λ i h. let below : i < length l = omega (arith, length-listed (length l) f) in getD-listed (length l) f blank i below ∙ is i below)
+
+module _ {N L : ℕ} (s : Store Entry) (C : Columns) (holds : Holds N L s C) where
+  module _ (i : ℕ) (h : i < length (s .nodes)) where
+    pub level-held : getD (C .level) i 0 ≡ getD (s .nodes) i unused .level
+    level-held = begins-at (λ (n : Node). n .level) (s .nodes) (C .level) unused (holds .of-level) i h
+
+    pub low-held : getD (C .low) i 0 ≡ code (getD (s .nodes) i unused .low)
+    low-held = begins-at (λ (n : Node). code (n .low)) (s .nodes) (C .low) unused (holds .of-low) i h
+
+    pub high-held : getD (C .high) i 0 ≡ code (getD (s .nodes) i unused .high)
+    high-held = begins-at (λ (n : Node). code (n .high)) (s .nodes) (C .high) unused (holds .of-high) i h
+
+    node-held : node-in (C .level) (C .low) (C .high) i ≡ getD (s .nodes) i unused
+    node-held = λ t. branch
+        (level-held t)
+        ((ap ref-of low-held ∙ ref-of-code (getD (s .nodes) i unused .low)) t)
+        ((ap ref-of high-held ∙ ref-of-code (getD (s .nodes) i unused .high)) t)
+
+  pub entry-held : (j : ℕ) → j < length (s .values) → entry-of (C .a) (C .b) (C .c) (C .d) j ≡ getD (s .values) j 𝟘
+  unfolding 𝟘
+  entry-held j h = λ t. entry
+      (begins-at (λ (x : Entry). x .a) (s .values) (C .a) 𝟘 (holds .of-a) j h t)
+      (begins-at (λ (x : Entry). x .b) (s .values) (C .b) 𝟘 (holds .of-b) j h t)
+      (begins-at (λ (x : Entry). x .c) (s .values) (C .c) 𝟘 (holds .of-c) j h t)
+      (begins-at (λ (x : Entry). x .d) (s .values) (C .d) 𝟘 (holds .of-d) j h t)
+
+  pub nodes-held : nodes-in (length (s .nodes)) (C .level) (C .low) (C .high) ≡ s .nodes
+  nodes-held = listed-all unused (s .nodes) (node-in (C .level) (C .low) (C .high)) node-held
+
+  pub entries-held : entries-of (C .a) (C .b) (C .c) (C .d) (length (s .values)) ≡ s .values
+  entries-held = listed-all 𝟘 (s .values) (entry-of (C .a) (C .b) (C .c) (C .d)) entry-held

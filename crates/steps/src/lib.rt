@@ -8,7 +8,14 @@ use transitions::VALUE_HEADS;
 use transitions::WIDTH;
 use transitions::ZERO;
 ghost use mathlib.Core.Path.{_≡_};
-ghost use Rattle.diagrams.specs.Columns.{columns};
+ghost use mathlib.Core.List.{[], _∷_};
+ghost use Prim.Native.Nat.{_*_, _≤_, max};
+ghost use lib.ListN.{length};
+ghost use Rattle.diagrams.specs.Columns.{columns, entries-of, zero-ref, ValueColumns};
+ghost use Rattle.products.specs.Step.{Fresh};
+ghost use Rattle.products.specs.Step as product;
+ghost use Rattle.turns.specs.Work.{work};
+ghost use Rattle.steps.specs.Layout.{laid-out, planned, Planning, Roomy, Cleared, Walked};
 ghost use Rattle.steps.specs.Stepping.{Task, Left};
 
 // The slots of the plan that hold the counts of the source's nodes and values.
@@ -44,12 +51,23 @@ pub struct Used {
     pub values: u32,
 }
 
-fn larger(x: u32, y: u32) -> u32 {
+fn larger(x: u32, y: u32) -> u32
+    ensures { λ r. ⌜ r ≡ max x y ⌝ }
+{
     if x < y { y } else { x }
 }
 
+fn wide(x: u32) -> usize
+    ensures { λ r. ⌜ r ≡ x ⌝ }
+{
+    x as usize
+}
+
 // What a plan holds beside its gate: the source's zero and counts, the sizes of the tables, the width and the levels.
-fn lay_out(zero: u32, levels: u32, sizes: Sizes, used: Used, plan: &mut [u32; 32]) {
+fn lay_out(zero: u32, levels: u32, sizes: Sizes, used: Used, plan: &mut [u32; 32])
+    requires { ⌜ (used .nodes ≤ 65536) × (used .values ≤ 65536) ⌝ }
+    ensures { λ _. ⌜ now (plan .exit) ≡ laid-out zero levels sizes used (now (plan .entry)) ⌝ }
+{
     plan[ZERO] = zero;
     plan[NODE_HEADS] = tables::table_size(used.nodes, LEAST_NODE_HEADS, sizes.heads);
     plan[VALUE_HEADS] = tables::table_size(used.values, LEAST_VALUE_HEADS, sizes.heads);
@@ -61,22 +79,90 @@ fn lay_out(zero: u32, levels: u32, sizes: Sizes, used: Used, plan: &mut [u32; 32
     plan[SOURCE_VALUES] = used.values;
 }
 
-// Empty tables, as large as the plan says.
+// The plan of a step from a source with these values.
+fn plan_step(
+    action: Action,
+    n: u32,
+    sizes: Sizes,
+    used: Used,
+    a: &[i32],
+    b: &[i32],
+    c: &[i32],
+    d: &[i32],
+    plan: &mut [u32; 32],
+)
+    requires { ⌜ Planning action n used × ValueColumns (now a) (now b) (now c) (now d) (used .values) ⌝ }
+    ensures { λ _. ⌜ now (plan .exit)
+        ≡ planned action n sizes used (zero-ref (entries-of (now (a .entry)) (now (b .entry)) (now (c .entry)) (now (d .entry)) (used .values))) (now (plan .entry)) ⌝ }
+{
+    let zero = diagrams::zero_of(a, b, c, d, used.values);
+    lay_out(zero, 2 * n, sizes, used, plan);
+    transitions::prepare(action.rule, action.side, action.control, action.target, plan);
+}
+
+// Empty tables, as large as the plan says, for so many nodes and values.
 fn clear_tables(
     plan: &[u32; 32],
-    room: usize,
-    value_room: usize,
+    nodes: usize,
+    values: usize,
     node_index: &mut [u32],
     value_index: &mut [u32],
     memo: &mut [u32],
-) {
-    diagrams::clear_index(node_index, room, room + plan[NODE_HEADS] as usize);
-    diagrams::clear_index(
+)
+    requires { ⌜ Roomy (now plan) nodes values (now «node_index») (now «value_index») (now memo) ⌝ }
+    ensures { λ _. ⌜ Cleared (now (plan .entry)) nodes values
+        (now («node_index» .entry)) (now («value_index» .entry)) (now (memo .entry))
+        (now («node_index» .exit)) (now («value_index» .exit)) (now (memo .exit)) ⌝ }
+{
+    diagrams::clear_index(node_index, nodes, nodes + wide(plan[NODE_HEADS]));
+    diagrams::clear_index(value_index, values, values + wide(plan[VALUE_HEADS]));
+    tables::clear_table(memo, 3 * wide(plan[SPAN]) + 4 * wide(plan[SLOTS]));
+}
+
+// The planned walk, from the source's columns.
+fn walk<'s>(
+    plan: &[u32; 32],
+    root: u32,
+    src_level: &'s [u32],
+    src_low: &'s [u32],
+    src_high: &'s [u32],
+    src_a: &'s [i32],
+    src_b: &'s [i32],
+    src_c: &'s [i32],
+    src_d: &'s [i32],
+    level: &mut [u32],
+    low: &mut [u32],
+    high: &mut [u32],
+    terminals: &mut [i32],
+    node_index: &mut [u32],
+    value_index: &mut [u32],
+    memo: &mut [u32],
+    tally: &mut [u32; 4],
+)
+    requires { ⌜ product.Task (now plan) (now «src_level» ∷ now «src_low» ∷ now «src_high» ∷ [])
+        (now «src_a» ∷ now «src_b» ∷ now «src_c» ∷ now «src_d» ∷ []) root ⌝ }
+    requires { ⌜ Fresh (now plan) (work (now level) (now low) (now high) (now terminals) (now «node_index») (now «value_index») (now memo) (now tally)) ⌝ }
+    ensures { λ r. ⌜ Walked (now (plan .entry)) (now («src_level» .entry) ∷ now («src_low» .entry) ∷ now («src_high» .entry) ∷ [])
+        (now («src_a» .entry) ∷ now («src_b» .entry) ∷ now («src_c» .entry) ∷ now («src_d» .entry) ∷ []) root
+        (work (now (level .entry)) (now (low .entry)) (now (high .entry)) (now (terminals .entry)) (now («node_index» .entry)) (now («value_index» .entry)) (now (memo .entry)) (now (tally .entry)))
+        (work (now (level .exit)) (now (low .exit)) (now (high .exit)) (now (terminals .exit)) (now («node_index» .exit)) (now («value_index» .exit)) (now (memo .exit)) (now (tally .exit))) ⌝ }
+{
+    let nodes = [src_level, src_low, src_high];
+    let values = [src_a, src_b, src_c, src_d];
+    products::multiply(
+        plan,
+        root,
+        &nodes,
+        &values,
+        level,
+        low,
+        high,
+        terminals,
+        node_index,
         value_index,
-        value_room,
-        value_room + plan[VALUE_HEADS] as usize,
+        memo,
+        tally,
     );
-    tables::clear_table(memo, 3 * plan[SPAN] as usize + 4 * plan[SLOTS] as usize);
 }
 
 // The product of the diagram in the source's columns with a gate goes into the destination's. The tally then has its nodes and
@@ -118,28 +204,19 @@ pub fn take_step<'s>(
         (now (tally .exit)) ⌝ }
 {
     let mut plan = [0; 32];
-    let zero = diagrams::zero_of(src_a, src_b, src_c, src_d, used.values);
-    lay_out(zero, 2 * n, sizes, used, &mut plan);
-    transitions::prepare(
-        action.rule,
-        action.side,
-        action.control,
-        action.target,
-        &mut plan,
-    );
+    plan_step(action, n, sizes, used, src_a, src_b, src_c, src_d, &mut plan);
     clear_tables(&plan, level.len(), a.len(), node_index, value_index, memo);
-    tally[0] = 0;
-    tally[1] = 0;
-    tally[2] = 0;
-    tally[3] = 0;
-    let nodes = [src_level, src_low, src_high];
-    let values = [src_a, src_b, src_c, src_d];
-    let root = 2 * used.nodes - 1;
-    products::multiply(
+    let mut counts = [0; 4];
+    walk(
         &plan,
-        root,
-        &nodes,
-        &values,
+        2 * used.nodes - 1,
+        src_level,
+        src_low,
+        src_high,
+        src_a,
+        src_b,
+        src_c,
+        src_d,
         level,
         low,
         high,
@@ -147,9 +224,10 @@ pub fn take_step<'s>(
         node_index,
         value_index,
         memo,
-        tally,
+        &mut counts,
     );
-    if tally[2] == 0 {
-        diagrams::publish(terminals, tally[1], a, b, c, d);
+    *tally = counts;
+    if counts[2] == 0 {
+        diagrams::publish(terminals, counts[1], a, b, c, d);
     }
 }

@@ -46,23 +46,23 @@ module _ (rule : Rule) (side control target : ℕ) (l acted-on : List ℕ) {p : 
 -- ---- slots after writes
 
 -- slots and what is written to each, the last write first
-abbrev written : List (ℕ × ℕ) → List ℕ → List ℕ
+abbrev pub written : List (ℕ × ℕ) → List ℕ → List ℕ
 written [] l = l
 written (w ∷ ws) l = set (written ws l) (w .0) (w .1)
 
-abbrev read : List (ℕ × ℕ) → ℕ → ℕ → ℕ
+abbrev pub read : List (ℕ × ℕ) → ℕ → ℕ → ℕ
 read [] j old = old
 read (w ∷ ws) j old = cond (eqb (w .0) j) (w .1) (read ws j old)
 
-abbrev all-below : ℕ → List (ℕ × ℕ) → Bool
+abbrev pub all-below : ℕ → List (ℕ × ℕ) → Bool
 all-below n [] = true
 all-below n (w ∷ ws) = ltb (w .0) n && all-below n ws
 
-length-written : (ws : List (ℕ × ℕ)) (l : List ℕ) → length (written ws l) ≡ length l
+pub length-written : (ws : List (ℕ × ℕ)) (l : List ℕ) → length (written ws l) ≡ length l
 length-written [] l = refl
 length-written (w ∷ ws) l = length-set (written ws l) (w .0) (w .1) ∙ length-written ws l
 
-read-written : (ws : List (ℕ × ℕ)) (l : List ℕ) (j : ℕ) → all-below (length l) ws ≡ true → getD (written ws l) j 0 ≡ read ws j (getD l j 0)
+pub read-written : (ws : List (ℕ × ℕ)) (l : List ℕ) (j : ℕ) → all-below (length l) ws ≡ true → getD (written ws l) j 0 ≡ read ws j (getD l j 0)
 read-written [] l j below = refl
 read-written (w ∷ ws) l j below =
     let tests = both-true (ltb (w .0) (length l)) (all-below (length l) ws) below in
@@ -76,6 +76,54 @@ read-written (w ∷ ws) l j below =
         ap (λ (k : ℕ). getD (set (written ws l) (w .0) (w .1)) k 0) (sym same)
         ∙ getD-set-same (written ws l) (w .0) (w .1) 0 (omega arith)
     by-slot false e inside before = getD-set-other (written ws l) (w .0) j (w .1) 0 (λ same. eqb-false _ _ e (sym same)) ∙ before
+
+-- slots past those that are written stay
+read-past : (ws : List (ℕ × ℕ)) (limit j old : ℕ) → all-below limit ws ≡ true → limit ≤ j → read ws j old ≡ old
+read-past [] limit j old below past = refl
+read-past (w ∷ ws) limit j old below past =
+    let tests = both-true (ltb (w .0) limit) (all-below limit ws) below in
+    let lower : w .0 < limit = ltb-true _ _ (tests .0) in
+    rw (ne-eqb (w .0) j (omega arith)) (read-past ws limit j old (tests .1) past)
+
+-- the writes of a gate's action
+abbrev action-writes : ℕ → Rule → List (ℕ × ℕ)
+action-writes side rule =
+    let p = side-phases side rule in (22, p .one) ∷ (21, p .zero) ∷ (20, as-number (rule .mixes)) ∷ (19, as-number (rule .flips)) ∷ []
+
+-- a plan's slots from 23 on are those of another
+pub record Keeps (l l′ : List ℕ) : Type 0 where
+  pub long : length l′ ≡ length l
+  pub past : (j : ℕ) → 23 ≤ j → getD l′ j 0 ≡ getD l j 0
+
+-- the writes of a gate's plan keep them
+module _ (rule : Rule) (side control target : ℕ) (l : List ℕ) (size : length l ≡ 32) where
+  keeps : (ws : List (ℕ × ℕ)) → all-below 23 ws ≡ true → all-below 32 ws ≡ true → Keeps l (written ws l)
+  keeps ws below within = record {
+    long = length-written ws l;
+    past = λ j past. read-written ws l j (ap (λ (m : ℕ). all-below m ws) size ∙ within) ∙ read-past ws 23 j (getD l j 0) below past;
+  }
+
+  abbrev acted-on : List ℕ
+  acted-on = with-action (rule .flips) (rule .mixes) (side-phases side rule) l
+
+  keeps-stage : (t : ℕ) → Keeps l (with-stage t acted-on)
+  keeps-stage t = keeps ((18, 0) ∷ (17, 1) ∷ (1, getD acted-on 28 0) ∷ (0, t) ∷ action-writes side rule) refl refl
+
+  keeps-stages : (a b t : ℕ) → Keeps l (with-stages a b t acted-on)
+  keeps-stages a b t = keeps ((18, t) ∷ (17, 2) ∷ (2, getD acted-on 28 0) ∷ (1, b) ∷ (0, a) ∷ action-writes side rule) refl refl
+
+  keeps-staged : (one less : Bool) (c t : ℕ)
+      → Keeps l (cond one (with-stage t acted-on) (cond less (with-stages c t 1 acted-on) (with-stages t c 0 acted-on)))
+  keeps-staged true less c t = keeps-stage t
+  keeps-staged false true c t = keeps-stages c t 1
+  keeps-staged false false c t = keeps-stages t c 0
+
+  pub prepared-keeps : Keeps l (prepared rule side control target l)
+  unfolding prepared
+  prepared-keeps =
+      let c = side-level side control in
+      let t = side-level side target in
+      keeps-staged (eqb (rule .qubits) 1) (ltb c t) c t
 
 -- ---- the plan is for the gate
 
@@ -103,11 +151,6 @@ two-qubits CNOT e = omega arith
 two-qubits CZ e = omega arith
 
 module _ (n : ℕ) (right : Bool) (l : List ℕ) (size : length l ≡ 32) (levels-in : getD l 28 0 ≡ levels n) where
-  abbrev action-writes : Rule → List (ℕ × ℕ)
-  action-writes rule =
-      let p = side-phases (as-number right) rule in
-      (22, p .one) ∷ (21, p .zero) ∷ (20, as-number (rule .mixes)) ∷ (19, as-number (rule .flips)) ∷ []
-
   -- the slot after writes that are within 32 slots
   reads : (ws : List (ℕ × ℕ)) (j : ℕ) → all-below 32 ws ≡ true → getD (written ws l) j 0 ≡ read ws j (getD l j 0)
   reads ws j below = read-written ws l j (ap (λ (m : ℕ). all-below m ws) size ∙ below)
@@ -115,17 +158,16 @@ module _ (n : ℕ) (right : Bool) (l : List ℕ) (size : length l ≡ 32) (level
   -- the stages' writes leave the action's slots and the number of levels
   abbrev Leaves-action : Rule → List (ℕ × ℕ) → Type 0
   Leaves-action rule ws =
-      (old : ℕ) → (read (ws ++ action-writes rule) 28 old ≡ old)
-      × (read (ws ++ action-writes rule) 19 old ≡ as-number (rule .flips)) × (read (ws ++ action-writes rule) 20 old ≡ as-number (rule .mixes))
-      × (read (ws ++ action-writes rule) 21 old ≡ side-phases (as-number right) rule .zero)
-      × (read (ws ++ action-writes rule) 22 old ≡ side-phases (as-number right) rule .one)
+      let all = ws ++ action-writes (as-number right) rule in
+      (old : ℕ) → (read all 28 old ≡ old) × (read all 19 old ≡ as-number (rule .flips)) × (read all 20 old ≡ as-number (rule .mixes))
+      × (read all 21 old ≡ side-phases (as-number right) rule .zero) × (read all 22 old ≡ side-phases (as-number right) rule .one)
 
-  plan-for : (g : Gate) (ws : List (ℕ × ℕ)) → all-below 32 (ws ++ action-writes (gate-rule g)) ≡ true → Leaves-action (gate-rule g) ws
-      → Stages (as-number right) (plan-of (written (ws ++ action-writes (gate-rule g)) l)) g
-      → PlanFor n right g (plan-of (written (ws ++ action-writes (gate-rule g)) l))
+  plan-for : (g : Gate) (ws : List (ℕ × ℕ)) → all-below 32 (ws ++ action-writes (as-number right) (gate-rule g)) ≡ true → Leaves-action (gate-rule g) ws
+      → Stages (as-number right) (plan-of (written (ws ++ action-writes (as-number right) (gate-rule g)) l)) g
+      → PlanFor n right g (plan-of (written (ws ++ action-writes (as-number right) (gate-rule g)) l))
   plan-for g ws below leaves stages =
       let rule = gate-rule g in
-      let all = ws ++ action-writes rule in
+      let all = ws ++ action-writes (as-number right) rule in
       record {
         levels-are = reads all 28 below ∙ leaves (getD l 28 0) .0 ∙ levels-in;
         flips-are = ap (λ (v : ℕ). eqb v 1) (reads all 19 below ∙ leaves (getD l 19 0) .1) ∙ from-number (rule .flips);
@@ -139,13 +181,13 @@ module _ (n : ℕ) (right : Bool) (l : List ℕ) (size : length l ≡ 32) (level
 
   -- the number of levels as it stands after the action's writes
   abbrev end : Rule → ℕ
-  end rule = getD (written (action-writes rule) l) 28 0
+  end rule = getD (written (action-writes (as-number right) rule) l) 28 0
 
   plan-on : (k : Kind) (q c : ℕ) → PlanFor n right (on k q) (plan-of (prepared (kind-rule k) (as-number right) c q l))
   unfolding prepared
   plan-on k q c =
       let ws : List (ℕ × ℕ) = (18, 0) ∷ (17, 1) ∷ (1, end (kind-rule k)) ∷ (0, side-level (as-number right) q) ∷ [] in
-      let all = ws ++ action-writes (kind-rule k) in
+      let all = ws ++ action-writes (as-number right) (kind-rule k) in
       rw (eq-eqb _ _ (one-qubit k))
       (plan-for (on k q) ws refl (λ old. (refl, refl, refl, refl, refl)) (reads all 17 refl, reads all 18 refl, reads all 0 refl))
 
@@ -154,10 +196,10 @@ module _ (n : ℕ) (right : Bool) (l : List ℕ) (size : length l ≡ 32) (level
     pair-writes a b τ = (18, τ) ∷ (17, 2) ∷ (2, end (pair-rule k)) ∷ (1, b) ∷ (0, a) ∷ []
 
     abbrev pair-slots : ℕ → ℕ → ℕ → List ℕ
-    pair-slots a b τ = written (pair-writes a b τ ++ action-writes (pair-rule k)) l
+    pair-slots a b τ = written (pair-writes a b τ ++ action-writes (as-number right) (pair-rule k)) l
 
-    slot-of : (a b τ j : ℕ) → getD (pair-slots a b τ) j 0 ≡ read (pair-writes a b τ ++ action-writes (pair-rule k)) j (getD l j 0)
-    slot-of a b τ j = reads (pair-writes a b τ ++ action-writes (pair-rule k)) j refl
+    slot-of : (a b τ j : ℕ) → getD (pair-slots a b τ) j 0 ≡ read (pair-writes a b τ ++ action-writes (as-number right) (pair-rule k)) j (getD l j 0)
+    slot-of a b τ j = reads (pair-writes a b τ ++ action-writes (as-number right) (pair-rule k)) j refl
 
     plan-stages : (a b τ : ℕ) → τ < 2 → a < b → getD (pair-slots a b τ) τ 0 ≡ side-level (as-number right) q
         → getD (pair-slots a b τ) (1 - τ) 0 ≡ side-level (as-number right) p → PlanFor n right (pair k p q) (plan-of (pair-slots a b τ))
