@@ -17,7 +17,7 @@ use Rattle.diagrams.specs.Diagram.{diagram}
 use Rattle.diagrams.specs.Columns.{Columns, Holds}
 use Rattle.miters.specs.declared.Refusal.{Refusal}
 use Rattle.miters.specs.declared.Refusal.the-variants.{Step as at-step}
-use Rattle.miters.specs.Miter.{Over, start, stepped, steps}
+use Rattle.miters.specs.Miter.{Over, start, Step, stepped, steps}
 use Rattle.miters.specs.Run.{Lent, Ended, done, stopped, follow, ended}
 use Rattle.miters.proofs.Runs.{follow-too-wide, follow-too-full, follow-on}
 use Rattle.transitions.specs.Prepare.{as-number, product-on}
@@ -30,10 +30,10 @@ use Rattle.runs.specs.declared.Next.{Next}
 use Rattle.runs.specs.declared.End.{End}
 use Rattle.runs.specs.declared.End.the-variants.{Done, Stopped}
 use Rattle.runs.specs.Running.{Task, Ran, ran, refused}
-use Rattle.runs.specs.Inside.{Lists, Chosen, current, used-in, Begun, Started, Followed}
+use Rattle.runs.specs.Inside.{Lists, Chosen, current, used-in, Room, Begun, Started, Followed}
 use Rattle.runs.proofs.Gates.{gate-halves, halves-few}
 use Rattle.runs.proofs.Stores.{Kept, kept-all, kept-then, long-kept, Tables, ScratchIn, TablesKept, tables-kept-all, tables-kept-then, scratch-kept}
-use Rattle.runs.proofs.Stores.{current-next, current-long, start-source, room-followed}
+use Rattle.runs.proofs.Stores.{current-next, current-long, start-source, no-nodes, no-values, room-followed}
 use Rattle.runs.proofs.Reached.{Fitting, fits-fitting, Turn, turn, placed, takes-steps, fitting-length}
 use Rattle.runs.proofs.Reached.{Reached, reached-start, reached-next, reached-root}
 
@@ -54,6 +54,11 @@ pub record Running (lent : Lent) (n : ℕ) (u v schedule : List ℕ) (whole : En
   pub power : exponent ≡ M .power
   pub few : exponent ≤ i
   pub holds : Source n (M .entries) (lent .nodes) (lent .values) used C
+
+ran-stopped : {lent : Lent} {n : ℕ} {first : Columns} {whole : Ended} {why given : Refusal} → whole ≡ stopped why → given ≡ why
+    → Ran lent n first whole (Stopped given)
+ran-stopped {lent} {n} {first} {given = given} e f =
+    subst (λ (x : Ended). Ran lent n first x (Stopped given)) (sym (e ∙ ap stopped (sym f))) refused
 
 -- ---- a step
 
@@ -78,15 +83,16 @@ module _ {lent : Lent} {n : ℕ} {u v schedule : List ℕ} {whole : Ended} {offs
   abbrev M′ : Over
   M′ = stepped n (placed (this .side) (this .gate)) (r .M)
 
-  rest : drop i schedule ≡ getD schedule i 0 ∷ drop (i + 1) schedule → steps (drop i schedule) (r .us) (r .vs)
-      ≡ placed (this .side) (this .gate) ∷ steps (drop (i + 1) schedule) (this .us′) (this .vs′)
-  rest e = ap (λ (s : List ℕ). steps s (r .us) (r .vs)) e ∙ takes-steps (drop (i + 1) schedule) (this .takes)
+  abbrev later : List Step
+  later = steps (drop (i + 1) schedule) (this .us′) (this .vs′)
 
-  from-here : whole ≡ follow lent n i (placed (this .side) (this .gate) ∷ steps (drop (i + 1) schedule) (this .us′) (this .vs′)) (r .M)
-  from-here = r .ends ∙ ap (λ ss. follow lent n i ss (r .M)) (rest split)
+  from-here : whole ≡ follow lent n i (placed (this .side) (this .gate) ∷ later) (r .M)
+  from-here =
+      r .ends ∙ ap (λ (s : List ℕ). follow lent n i (steps s (r .us) (r .vs)) (r .M)) split
+      ∙ ap (λ (ss : List Step). follow lent n i ss (r .M)) (takes-steps (drop (i + 1) schedule) (this .takes))
 
   module _ (few : n ≤ 16) (next : Next) (chosen : Chosen u v (getD schedule i 0) offsets n next) where
-    picked : Acts n (this .side) (this .gate) (next .action) × Lists n u v (next .offsets) (this .us′) (this .vs′)
+    pub picked : Acts n (this .side) (this .gate) (next .action) × Lists n u v (next .offsets) (this .us′) (this .vs′)
     picked = chosen (r .us) (r .vs) (this .us′) (this .vs′) (this .side) (this .gate) (this .takes) few (r .lists)
 
     -- what the step is given
@@ -131,8 +137,8 @@ module _ {lent : Lent} {n : ℕ} {u v schedule : List ℕ} {whole : Ended} {offs
             lists = picked .1;
             fitting = this .others;
             reached = reached′;
-            ends = from-here ∙ follow-on lent n i (r .M) (placed (this .side) (this .gate)) (steps (drop (i + 1) schedule) (this .us′) (this .vs′)) wide room
-                ∙ ap (λ (k : ℕ). follow lent n k (steps (drop (i + 1) schedule) (this .us′) (this .vs′)) M′) (sym (add-one i));
+            ends = from-here ∙ follow-on lent n i (r .M) (placed (this .side) (this .gate)) later wide room
+                ∙ ap (λ (k : ℕ). follow lent n k later M′) (sym (add-one i));
             power = ap₂ _+_ (r .power) added ∙ sym (power-stepped (this .side) n (this .gate) (r .M));
             few = omega (arith, r .few, added, halves-few (this .gate));
             holds = record { holds = held; nodes = nodes; values = values; root = reached-root n M′ some reached′ };
@@ -140,24 +146,21 @@ module _ {lent : Lent} {n : ℕ} {u v schedule : List ℕ} {whole : Ended} {offs
           by-took (too-large wide room one) = absurd (omega arith)
           by-took (too-wide wide large) = absurd (omega arith)
 
-      pub turn-stops : (first : Columns) → (getD tally 2 0 ≡ 0 → ⊥) → Ran lent n first whole (Stopped (at-step (cond (eqb (getD tally 2 0) 1) 14 13) i))
-      turn-stops first some = by-took leaves
+      pub turn-stops : {why : Refusal} (first : Columns) → (getD tally 2 0 ≡ 0 → ⊥) → why ≡ at-step (cond (eqb (getD tally 2 0) 1) 14 13) i
+          → Ran lent n first whole (Stopped why)
+      turn-stops {why} first some is = by-took leaves
         where
-          because : {why : Refusal} {e : End} → whole ≡ stopped why → e ≡ Stopped why → Ran lent n first whole e
-          because {why} {e} p q =
-              subst (λ (x : Ended). Ran lent n first x e) (sym p) (subst (λ (y : End). Ran lent n first (stopped why) y) (sym q) refused)
+          numbered : (b : Bool) → eqb (getD tally 2 0) 1 ≡ b → why ≡ at-step (cond b 14 13) i
+          numbered b e = is ∙ ap (λ (t : Bool). at-step (cond t 14 13) i) e
 
-          number : ℕ → End
-          number k = Stopped (at-step k i)
-
-          by-took : Took lent n (M′ .entries) C′ tally → Ran lent n first whole (Stopped (at-step (cond (eqb (getD tally 2 0) 1) 14 13) i))
+          by-took : Took lent n (M′ .entries) C′ tally → Ran lent n first whole (Stopped why)
           by-took (built wide room none nodes values held) = absurd (some none)
           by-took (too-large wide room one) =
-              because (from-here ∙ follow-too-full lent n i (r .M) (placed (this .side) (this .gate)) (steps (drop (i + 1) schedule) (this .us′) (this .vs′))
-              wide room) (ap (λ (b : Bool). number (cond b 14 13)) (eq-eqb _ _ one))
+              ran-stopped (from-here ∙ follow-too-full lent n i (r .M) (placed (this .side) (this .gate)) later wide room)
+              (numbered true (eq-eqb _ _ one))
           by-took (too-wide wide large) =
-              because (from-here ∙ follow-too-wide lent n i (r .M) (placed (this .side) (this .gate)) (steps (drop (i + 1) schedule) (this .us′) (this .vs′))
-              wide) (ap (λ (b : Bool). number (cond b 14 13)) (ne-eqb (getD tally 2 0) 1 (λ one. omega (arith, one, large))))
+              ran-stopped (from-here ∙ follow-too-wide lent n i (r .M) (placed (this .side) (this .gate)) later wide)
+              (numbered false (ne-eqb (getD tally 2 0) 1 (λ one. omega (arith, one, large))))
 
 -- ---- after the last step
 
@@ -210,7 +213,7 @@ module _ (u v schedule : List ℕ) (n : ℕ) (offsets₀ : Offsets) (sizes : Siz
   started : (s : Starts) (tally : List ℕ) → getD tally 0 0 ≡ 3 * n → getD tally 1 0 ≡ 2
       → Running (lent-of s) n u v schedule (whole-of s) offsets₀ 0 0 (used-in tally) (current (length schedule - 0) first₀ second₀)
   unfolding start
-  started s tally nodes values = let task = s .task in record {
+  started s tally nodes values = let task = s .task in let same : length schedule ≡ length schedule - 0 = omega arith in record {
     us = task .us;
     vs = task .vs;
     M = start;
@@ -222,7 +225,7 @@ module _ (u v schedule : List ℕ) (n : ℕ) (offsets₀ : Offsets) (sizes : Siz
     power = refl;
     few = omega arith;
     holds = record {
-      holds = subst (λ (k : ℕ). Holds (task .N) (task .L) (diagram n (start .entries) .store) (current k first₀ second₀)) (omega arith) (s .identity .holds);
+      holds = subst (λ (k : ℕ). Holds (task .N) (task .L) (diagram n (start .entries) .store) (current k first₀ second₀)) same (s .identity .holds);
       nodes = nodes ∙ s .identity .nodes;
       values = values ∙ s .identity .values;
       root = s .identity .root;
@@ -251,9 +254,9 @@ module _ (u v schedule : List ℕ) (n : ℕ) (offsets₀ : Offsets) (sizes : Siz
       module _ {tally′ : List ℕ} (first′ second′ : Columns) (left : stepping.Left (next .action) n sizes (used-in tally)
           (current (length schedule - i) first second) (current (length schedule - i) second first) (T .terminals) (T .node-index) (T .value-index) (T .memo)
           (current (length schedule - i) second′ first′) tally′) where
-        pub turning-stops : (getD tally′ 2 0 ≡ 0 → ⊥) → (s : Starts)
-            → Ran (lent-of s) n first′ (whole-of s) (Stopped (at-step (cond (eqb (getD tally′ 2 0) 1) 14 13) i))
-        turning-stops some s = turn-stops (t .runs s) more (s .task .within-u .few-qubits) next chosen (left (step-task s)) first′ some
+        pub turning-stops : {why : Refusal} → (getD tally′ 2 0 ≡ 0 → ⊥) → why ≡ at-step (cond (eqb (getD tally′ 2 0) 1) 14 13) i
+            → (s : Starts) → Ran (lent-of s) n first′ (whole-of s) (Stopped why)
+        turning-stops some is s = turn-stops (t .runs s) more (s .task .within-u .few-qubits) next chosen (left (step-task s)) first′ some is
 
         next-current : current (length schedule - i) second′ first′ ≡ current (length schedule - (i + 1)) first′ second′
         next-current =
@@ -273,38 +276,61 @@ module _ (u v schedule : List ℕ) (n : ℕ) (offsets₀ : Offsets) (sizes : Siz
 
 -- ---- the whole run
 
-module _ {u v schedule : List ℕ} {n : ℕ} {offsets : Offsets} {sizes : Sizes} {first second first′ second′ : Columns} (T : Tables)
-    (task : Task u v schedule n offsets sizes first second (T .terminals) (T .node-index) (T .value-index) (T .memo))
-    (first-kept : Kept first first′) (second-kept : Kept second second′) where
-  abbrev task-kept : Task u v schedule n offsets sizes first′ second′ (T .terminals) (T .node-index) (T .value-index) (T .memo)
-  task-kept = record {
-    us = task .us;
-    vs = task .vs;
-    N = task .N;
-    L = task .L;
-    within-u = task .within-u;
-    within-v = task .within-v;
-    gates-u = task .gates-u;
-    gates-v = task .gates-v;
-    fitting = task .fitting;
-    width = task .width;
-    first-long = long-kept (task .first-long) first-kept;
-    second-long = long-kept (task .second-long) second-kept;
-    scratch = task .scratch;
-  }
+module _ {u v schedule : List ℕ} {n : ℕ} {offsets : Offsets} {sizes : Sizes} {first second : Columns} (T : Tables)
+    (task : Task u v schedule n offsets sizes first second (T .terminals) (T .node-index) (T .value-index) (T .memo)) where
+  abbrev lent : Lent
+  lent = lent-with sizes (task .N) (task .L)
 
-  module _ (begun : Begun (length schedule) n first second first′ second′) (nodes : 3 * n ≤ task .N) (values : 2 ≤ task .L) where
-    abbrev pub run-starts : Started u v schedule n offsets sizes first′ second′ (T .terminals) (T .node-index) (T .value-index) (T .memo)
-    run-starts = record {
-      task = task-kept;
-      identity =
-          start-source n (task .within-u .some-qubit) (current-long (length schedule) (task .first-long) (task .second-long)) nodes values begun;
+  abbrev along : List Step
+  along = steps schedule (task .us) (task .vs)
+
+  -- no room for the identity
+  module _ {why : Refusal} {last : Columns} (is : why ≡ at-step 14 0) where
+    pub run-few-nodes : length (first .level) < 3 * n → Ran lent n last (ended lent n along) (Stopped why)
+    run-few-nodes less = ran-stopped (no-nodes n (task .within-u .some-qubit) lent along (omega (arith, less, task .first-long .of-level))) is
+
+    pub run-few-values : length (first .a) < 2 → Ran lent n last (ended lent n along) (Stopped why)
+    run-few-values less = ran-stopped (no-values n (task .within-u .some-qubit) lent along (omega (arith, less, task .first-long .of-a))) is
+
+  -- room for it
+  module _ (nodes : 3 * n ≤ length (first .level)) (values : 2 ≤ length (first .a)) where
+    abbrev pub run-room : Room n first second
+    run-room = record {
+      N = task .N;
+      L = task .L;
+      few-qubits = task .within-u .few-qubits;
+      nodes = omega (arith, nodes, task .first-long .of-level);
+      values = omega (arith, values, task .first-long .of-a);
+      first-long = task .first-long;
+      second-long = task .second-long;
     }
 
-    pub run-followed : {last : Columns} {r : End}
-        → Followed u v schedule n offsets sizes first′ second′ (T .terminals) (T .node-index) (T .value-index) (T .memo) last r
-        → let lent = lent-with sizes (task .N) (task .L) in Ran lent n last (ended lent n (steps schedule (task .us) (task .vs))) r
-    run-followed {last} {r} followed =
-        let lent = lent-with sizes (task .N) (task .L) in
-        subst (λ (e : Ended). Ran lent n last e r)
-        (sym (room-followed n (task .within-u .some-qubit) lent (steps schedule (task .us) (task .vs)) nodes values)) (followed run-starts)
+    module _ {first′ second′ : Columns} (first-kept : Kept first first′) (second-kept : Kept second second′)
+        (begun : Begun (length schedule) n first second first′ second′) where
+      abbrev pub run-starts : Started u v schedule n offsets sizes first′ second′ (T .terminals) (T .node-index) (T .value-index) (T .memo)
+      run-starts = record {
+        task = record {
+          us = task .us;
+          vs = task .vs;
+          N = task .N;
+          L = task .L;
+          within-u = task .within-u;
+          within-v = task .within-v;
+          gates-u = task .gates-u;
+          gates-v = task .gates-v;
+          fitting = task .fitting;
+          width = task .width;
+          first-long = long-kept (task .first-long) first-kept;
+          second-long = long-kept (task .second-long) second-kept;
+          scratch = task .scratch;
+        };
+        identity = start-source n (task .within-u .some-qubit) (current-long (length schedule) (task .first-long) (task .second-long))
+            (run-room .nodes) (run-room .values) begun;
+      }
+
+      pub run-followed : {last : Columns} {r : End}
+          → Followed u v schedule n offsets sizes first′ second′ (T .terminals) (T .node-index) (T .value-index) (T .memo) last r
+          → Ran lent n last (ended lent n along) r
+      run-followed {last} {r} followed =
+          subst (λ (e : Ended). Ran lent n last e r)
+          (sym (room-followed n (task .within-u .some-qubit) lent along (run-room .nodes) (run-room .values))) (followed run-starts)

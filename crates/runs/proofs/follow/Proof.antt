@@ -1,15 +1,12 @@
 -- `runs::follow` meets its contract. The loop's invariant: the lengths are kept, and i steps are taken, whose diagram is in the
 -- current store. The measure is the number of steps left.
 -- Assumes nothing.
-use mathlib.Core.Path.{_≡_, refl, sym, _∙_, subst}
-use Prim.Native.Nat.{_-_, _≤_}
+use mathlib.Core.Path.{refl, _∙_}
+use Prim.Native.Nat.{_-_}
 use native.Mathlib.Omega.{arith}
 use borrow.Author.Needs.{needs}
 use lib.ListN.{length}
 use Rattle.diagrams.specs.Columns.{columns}
-use Rattle.miters.specs.declared.Refusal.{Refusal}
-use Rattle.runs.specs.Running.{Ran}
-use Rattle.runs.specs.declared.End.the-variants.{Stopped}
 use Rattle.runs.proofs.Stores.{tables}
 use Rattle.runs.proofs.Turns.{few-steps, Turning, turning-starts, turning-ends, step-task, turning-stops, turning-on}
 use Rattle.runs.proofs.follow.Statement.{statement}
@@ -31,7 +28,7 @@ abbrev μ-loop : tie.MeasureT-loop
 
 -- ---- the places
 
-abbrev entry : tie.At-loop Inv-loop μ-loop → tie.Start
+abbrev entry : tie.At-loop Inv-loop μ-loop → tie.Start Inv-loop μ-loop
 entry c = c .before .before .before .before .before .before .before .before .before .before .before .before .before
 
 abbrev test : tie.After-choose Inv-loop μ-loop → tie.In-loop Inv-loop μ-loop
@@ -81,7 +78,7 @@ array-read-refusal c = search needs
 
 cast-refusal : tie.Need-cast-refusal Inv-loop μ-loop
 cast-refusal c =
-    let s = chosen (c .before .before .before .before .before .before .before .before .before .before .before .before .before .before .before .before .before .before .before .before .before .before .before .before .before .before .before .before .before) in
+    let s = chosen (c .before .before .before .before .before .before .before .before .before .before .before .before .before .before .before .before .before .before .before .before .before .before .before .before .before .before .before .before) in
     omega (arith, test s .loop-test .taken, few-steps _ _ _ _ _ _ _ _ _ (entry (head s) .pre))
 
 refusal-requires : tie.Need-refusal-requires Inv-loop μ-loop
@@ -90,7 +87,7 @@ refusal-requires c κs = search needs
 -- ---- a step that is refused
 
 abbrev stopped : tie.After-refusal Inv-loop μ-loop → tie.After-advance Inv-loop μ-loop
-stopped c = c .before .before .before .before .before .before .before .before .before .before .before .before .before .before .before .before .before .before .before .before .before .before .before .before .before .before .before .before .before .before
+stopped c = c .before .before .before .before .before .before .before .before .before .before .before .before .before .before .before .before .before .before .before .before .before .before .before .before .before .before .before .before .before
 
 same-length : tie.Need-same-length Inv-loop μ-loop
 same-length c = stopped c .advance .kept .1 .1 .1 .1 .0 ∙ head (chosen (stopped c)) .loop .inv .first-kept .of-level
@@ -147,11 +144,11 @@ same-length-18 : tie.Need-same-length-18 Inv-loop μ-loop
 same-length-18 c = stopped c .advance .kept .1 .1 .1 .1 .1 .1 .1 .1 .1 .1 .1 .1 .1 .1 .1 .1 .1 .1 .1 .1 .1 .0 ∙ head (chosen (stopped c)) .loop .inv .tables-kept .of-memo
 
 returns : tie.Need-returns Inv-loop μ-loop
-returns c s =
+returns c =
     let a = stopped c in
     let t = chosen a in
-    subst (λ (why : Refusal). Ran _ _ _ _ (Stopped why)) (sym (c .refusal .ensures))
-    (turning-stops _ _ _ _ _ _ _ _ _ (head t .loop .inv) (test t .loop-test .taken) _ (t .choose .ensures) _ _ (a .advance .ensures) (c .before .if1 .taken) s)
+    turning-stops _ _ _ _ _ _ _ _ _ (head t .loop .inv) (test t .loop-test .taken) _ (t .choose .ensures) _ _ (a .advance .ensures)
+    (c .before .if1 .taken) (c .refusal .ensures)
 
 -- ---- a step that is taken
 
@@ -159,7 +156,7 @@ halves-requires : tie.Need-halves-requires Inv-loop μ-loop
 halves-requires c κs = search needs
 
 abbrev went : tie.After-halves Inv-loop μ-loop → tie.After-advance Inv-loop μ-loop
-went c = c .before .before .before .before .before .before .before .before .before .before .before .before .before .before .before .before .before .before .before .before .before .before .before .before .before .before .before .before .before .before .before
+went c = c .before .before .before .before .before .before .before .before .before .before .before .before .before .before .before .before .before .before .before .before .before .before .before .before .before .before .before .before .before .before
 
 loop-again : tie.Need-loop-again Inv-loop μ-loop
 loop-again c =
