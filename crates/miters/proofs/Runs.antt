@@ -107,14 +107,14 @@ module _ (lent : Lent) (n : ℕ) where
         subst (λ (i : ℕ). Follows before M (s ∷ ss) (stopped (at-step 14 i))) (omega arith)
         (too-full (suc k) (omega arith) (pass-cons k wide room pass) fit out)
 
-    follow-too-wide : in-width lent n (next .entries) ≡ false → follow lent n before (s ∷ ss) M ≡ stopped (at-step 13 before)
+    pub follow-too-wide : in-width lent n (next .entries) ≡ false → follow lent n before (s ∷ ss) M ≡ stopped (at-step 13 before)
     follow-too-wide wide = rw wide
 
-    follow-too-full : in-width lent n (next .entries) ≡ true → has-room lent n (next .entries) ≡ false
+    pub follow-too-full : in-width lent n (next .entries) ≡ true → has-room lent n (next .entries) ≡ false
         → follow lent n before (s ∷ ss) M ≡ stopped (at-step 14 before)
     follow-too-full wide room = rw (wide, room)
 
-    follow-on : in-width lent n (next .entries) ≡ true → has-room lent n (next .entries) ≡ true
+    pub follow-on : in-width lent n (next .entries) ≡ true → has-room lent n (next .entries) ≡ true
         → follow lent n before (s ∷ ss) M ≡ follow lent n (suc before) ss next
     follow-on wide room = rw (wide, room)
 

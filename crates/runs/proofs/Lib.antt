@@ -1,0 +1,4 @@
+pub mod Gates
+pub mod Stores
+pub mod Reached
+pub mod Turns
