@@ -1,21 +1,20 @@
 -- The layout of a step: what the plan's slots come to, that it is a plan for the gate, and that the tables cleared are fresh.
 -- Assumes nothing.
-use mathlib.Core.Path.{_≡_, refl, sym, _∙_, ap, subst}
-use mathlib.Core.Bool.{Bool, true}
+use mathlib.Core.Path.{_≡_, refl, sym, _∙_, ap}
+use mathlib.Core.Bool.{Bool}
 use mathlib.Core.List.{List, [], _∷_}
-use Prim.Native.Nat.{ℕ, _+_, _*_, _/_, _<_, _≤_, max}
+use Prim.Native.Nat.{ℕ, _+_, _*_, max}
 use native.Mathlib.Omega.{arith}
-use lib.IntN.{ℤ}
-use lib.ListN.{length, getD, set}
-use Rattle.gates.specs.Gate.{Gate, Fits}
-use Rattle.gates.specs.Rule.{gate-rule, target}
+use lib.ListN.{length, getD}
+use Rattle.gates.specs.Gate.{Gate}
+use Rattle.gates.specs.Rule.{target}
 use Rattle.diagrams.specs.Diagram.{levels}
 use Rattle.diagrams.specs.Columns.{zeroed}
 use Rattle.diagrams.proofs.Places.{levels-double}
 use Rattle.transitions.specs.Plan.{plan-of}
-use Rattle.transitions.specs.Prepare.{as-number, prepared, PlanFor}
+use Rattle.transitions.specs.Prepare.{prepared, PlanFor}
 use Rattle.transitions.proofs.Plans.{written, read, all-below, length-written, read-written, Keeps, prepared-keeps, prepared-plan}
-use Rattle.tables.specs.Table.{table-end, table-size, cleared}
+use Rattle.tables.specs.Table.{table-size, cleared}
 use Rattle.steps.specs.declared.Action.{Action}
 use Rattle.steps.specs.declared.Sizes.{Sizes}
 use Rattle.steps.specs.declared.Used.{Used}
@@ -71,13 +70,15 @@ module _ (zero levels : ℕ) (sizes : Sizes) (used : Used) (l : List ℕ) (size 
 pub lays-out : (zero levels : ℕ) (sizes : Sizes) (used : Used) (l : List ℕ) {h k s m : ℕ}
     → h ≡ table-size (used .nodes) 64 (sizes .heads) → k ≡ table-size (used .values) 16 (sizes .heads) → s ≡ table-size (used .nodes) 256 (sizes .slots)
     → m ≡ max (used .nodes) (used .values)
-    → written ((31, used .values) ∷ (30, used .nodes) ∷ (29, 2 * m) ∷ (28, levels) ∷ (27, sizes .width) ∷ (26, s) ∷ (25, k) ∷ (24, h) ∷ (23, zero) ∷ []) l
+    → written ((31, used .values) ∷ (30, used .nodes) ∷ (29, 2 * m) ∷ (28, levels) ∷ (27, sizes .width)
+    ∷ (26, s) ∷ (25, k) ∷ (24, h) ∷ (23, zero) ∷ []) l
     ≡ laid-out zero levels sizes used l
 unfolding laid-out
 lays-out zero levels sizes used l of-h of-k of-s of-m = rw (of-h, of-k, of-s, of-m) refl
 
 -- a gate's plan keeps them
-slots-kept : {l l′ : List ℕ} {zero levels : ℕ} {sizes : Sizes} {used : Used} → Keeps l l′ → Slots l zero levels sizes used → Slots l′ zero levels sizes used
+slots-kept : {l l′ : List ℕ} {zero levels : ℕ} {sizes : Sizes} {used : Used} → Keeps l l′
+    → Slots l zero levels sizes used → Slots l′ zero levels sizes used
 slots-kept keeps slots = record {
   of-zero = keeps .past 23 (omega arith) ∙ slots .of-zero;
   of-node-heads = keeps .past 24 (omega arith) ∙ slots .of-node-heads;

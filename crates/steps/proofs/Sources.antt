@@ -1,13 +1,13 @@
 -- The source of a step: columns that hold a matrix's diagram are what the walk reads, and what it builds goes back into columns.
 -- Assumes nothing.
 use mathlib.Core.Path.{_≡_, refl, sym, _∙_, ap, ap₂, subst}
-use mathlib.Core.Bool.{Bool, true, false, cond, _&&_}
+use mathlib.Core.Bool.{Bool, true, false, cond}
 use mathlib.Core.List.{List, [], _∷_}
-use Prim.Native.Nat.{ℕ, zero, suc, _+_, _-_, _*_, _/_, _<_, _≤_, max}
+use Prim.Native.Nat.{ℕ, zero, suc, _+_, _-_, _*_, _/_, _<_, _≤_}
 use native.Mathlib.Omega.{arith}
 use native.Mathlib.Decide.{decLt}
-use lib.Dec.{leb, ltb}
-use lib.IntN.{ℤ, pos}
+use lib.Dec.{leb}
+use lib.IntN.{ℤ}
 use lib.ListN.{length, getD, replicate, length-replicate}
 use borrow.Author.Tests.{lt-ltb, le-ltb, leb-true}
 use Rattle.algebra.specs.declared.Entry.{Entry}
@@ -15,8 +15,8 @@ use Rattle.algebra.specs.Entry.{𝟘}
 use Rattle.algebra.specs.Matrix.{Matrix}
 use Rattle.gates.specs.Gate.{Gate, on, pair, Fits}
 use Rattle.gates.specs.Rule.{target}
-use Rattle.diagrams.specs.Diagram.{code, Store, Diagram, holding, node, diagram, slot, same-entry}
-use Rattle.diagrams.specs.Columns.{Columns, columns, Holds, entries-of, zero-ref, Published, NodeColumns, ValueColumns, zeroed}
+use Rattle.diagrams.specs.Diagram.{code, Store, holding, diagram, slot, same-entry}
+use Rattle.diagrams.specs.Columns.{Columns, columns, entries-of, zero-ref, Published, ValueColumns, zeroed}
 use Rattle.diagrams.specs.UniqueTable.{node-in, nodes-in, entry-in, values-in, ValuesHeld}
 use Rattle.diagrams.proofs.Chains.{length-listed}
 use Rattle.diagrams.proofs.EmptyTables.{cleared-nodes, cleared-values}
@@ -28,7 +28,7 @@ use Rattle.transitions.specs.Prepare.{as-number, product-on, PlanFor}
 use Rattle.transitions.specs.Source.{SourceHeld}
 use Rattle.transitions.specs.Valid.{IsZero, ValidPlan}
 use Rattle.transitions.proofs.Starts.{zero-found, zero-absent, plan-valid}
-use Rattle.tables.specs.Table.{TableFits, TableSizes, table-end}
+use Rattle.tables.specs.Table.{TableFits, table-end}
 use Rattle.tables.proofs.Sizes.{table-size-some, table-size-limit}
 use Rattle.tables.proofs.Tables.{cleared-zero, length-cleared}
 use Rattle.turns.specs.Work.{Work, work, source-in, store-in}
@@ -38,7 +38,7 @@ use Rattle.steps.specs.declared.Action.{Action}
 use Rattle.steps.specs.declared.Sizes.{Sizes}
 use Rattle.steps.specs.declared.Used.{Used}
 use Rattle.steps.specs.Layout.{planned, Planning, Roomy, Cleared, Walked}
-use Rattle.steps.specs.Stepping.{Acts, Source, Long, Scratch, Task, Took, lent-with}
+use Rattle.steps.specs.Stepping.{Task, Took, lent-with}
 use Rattle.steps.specs.Stepping as stepping
 use Rattle.steps.proofs.Layouts.{Slots, slots-planned, planned-for}
 
@@ -215,8 +215,10 @@ module _ {action : Action} {n : ℕ} {sizes : Sizes} {used : Used} {source desti
     walk-given = record {
       source = source-is;
       columns = subst (λ (t : Store Entry). SourceHeld t cols vals) (sym source-is) source-held;
-      node-span = subst (λ (t : Store Entry). 2 * length (t .nodes) ≤ plan-of plan .span) (sym source-is) (omega (arith, slots .of-span, task .given .nodes));
-      value-span = subst (λ (t : Store Entry). 2 * length (t .values) ≤ plan-of plan .span) (sym source-is) (omega (arith, slots .of-span, task .given .values));
+      node-span = subst (λ (t : Store Entry). 2 * length (t .nodes) ≤ plan-of plan .span) (sym source-is)
+          (omega (arith, slots .of-span, task .given .nodes));
+      value-span = subst (λ (t : Store Entry). 2 * length (t .values) ≤ plan-of plan .span) (sym source-is)
+          (omega (arith, slots .of-span, task .given .values));
     }
 
     pub walk-task : product.Task plan cols vals (2 * used .nodes - 1)
@@ -309,8 +311,10 @@ module _ {action : Action} {n : ℕ} {sizes : Sizes} {used : Used} {source desti
               within = within;
               room = room;
               store = store;
-              nodes = sym (length-listed (getD (after .tally) 0 0) (node-in (after .level) (after .low) (after .high))) ∙ ap (λ (t : Store Entry). length (t .nodes)) store;
-              values = sym (length-listed (getD (after .tally) 1 0) (entry-in (after .terminals))) ∙ ap (λ (t : Store Entry). length (t .values)) store;
+              nodes = sym (length-listed (getD (after .tally) 0 0) (node-in (after .level) (after .low) (after .high)))
+                  ∙ ap (λ (t : Store Entry). length (t .nodes)) store;
+              values = sym (length-listed (getD (after .tally) 1 0) (entry-in (after .terminals)))
+                  ∙ ap (λ (t : Store Entry). length (t .values)) store;
               few-nodes = leb-true _ _ few-nodes;
               few-values = leb-true _ _ few-values;
             }
@@ -327,8 +331,7 @@ module _ {action : Action} {n : ℕ} {sizes : Sizes} {used : Used} {source desti
             × ValueColumns (destination .a) (destination .b) (destination .c) (destination .d) (getD (after .tally) 1 0)
         publishable phase =
             let b = builds phase in
-            let few : getD (after .tally) 1 0 ≤ L = omega (arith, b .values, b .few-values) in
-            (
+            let few : getD (after .tally) 1 0 ≤ L = omega (arith, b .values, b .few-values) in (
               omega (arith, few, te-long, task .scratch .terminals-long),
               record {
                 in-a = omega (arith, few, task .room .of-a);

@@ -10,7 +10,6 @@ use transitions::ZERO;
 ghost use mathlib.Core.Path.{_≡_};
 ghost use mathlib.Core.List.{[], _∷_};
 ghost use Prim.Native.Nat.{_*_, _≤_, max};
-ghost use lib.ListN.{length};
 ghost use Rattle.diagrams.specs.Columns.{columns, entries-of, zero-ref, ValueColumns};
 ghost use Rattle.products.specs.Step.{Fresh};
 ghost use Rattle.products.specs.Step as product;
@@ -97,7 +96,13 @@ fn plan_step(
 {
     let zero = diagrams::zero_of(a, b, c, d, used.values);
     lay_out(zero, 2 * n, sizes, used, plan);
-    transitions::prepare(action.rule, action.side, action.control, action.target, plan);
+    transitions::prepare(
+        action.rule,
+        action.side,
+        action.control,
+        action.target,
+        plan,
+    );
 }
 
 // Empty tables, as large as the plan says, for so many nodes and values.
@@ -204,7 +209,17 @@ pub fn take_step<'s>(
         (now (tally .exit)) ⌝ }
 {
     let mut plan = [0; 32];
-    plan_step(action, n, sizes, used, src_a, src_b, src_c, src_d, &mut plan);
+    plan_step(
+        action,
+        n,
+        sizes,
+        used,
+        src_a,
+        src_b,
+        src_c,
+        src_d,
+        &mut plan,
+    );
     clear_tables(&plan, level.len(), a.len(), node_index, value_index, memo);
     let mut counts = [0; 4];
     walk(

@@ -1,69 +1,52 @@
+-- `steps::lay_out` meets its contract: the writes are the layout.
+-- Assumes nothing.
 use borrow.Author.Needs.{needs}
 use Rattle.steps.proofs.Layouts.{lays-out}
 use Rattle.steps.proofs.lay_out.Statement.{statement}
 use Rattle.steps.proofs.lay_out.Tie as tie
-use Rattle.steps.proofs.lay_out.Reads as reads
-use Rattle.steps.proofs.lay_out.Lts as lts
-use Rattle.steps.proofs.larger.Reads as larger-reads
-use Rattle.tables.proofs.table_size.Reads as table-size-reads
 
--- src/lib.rt:71:5
 element-write-plan : tie.Need-element-write-plan
 element-write-plan c = search needs
 
--- src/lib.rt:72:24
 table-size-requires : tie.Need-table-size-requires
 table-size-requires c κs = search needs
 
--- src/lib.rt:72:5
 element-write-plan-2 : tie.Need-element-write-plan-2
 element-write-plan-2 c = search needs
 
--- src/lib.rt:73:25
 table-size-requires-2 : tie.Need-table-size-requires-2
 table-size-requires-2 c κs = search needs
 
--- src/lib.rt:73:5
 element-write-plan-3 : tie.Need-element-write-plan-3
 element-write-plan-3 c = search needs
 
--- src/lib.rt:74:19
 table-size-requires-3 : tie.Need-table-size-requires-3
 table-size-requires-3 c κs = search needs
 
--- src/lib.rt:74:5
 element-write-plan-4 : tie.Need-element-write-plan-4
 element-write-plan-4 c = search needs
 
--- src/lib.rt:75:5
 element-write-plan-5 : tie.Need-element-write-plan-5
 element-write-plan-5 c = search needs
 
--- src/lib.rt:76:5
 element-write-plan-6 : tie.Need-element-write-plan-6
 element-write-plan-6 c = search needs
 
--- src/lib.rt:77:22
 larger-requires : tie.Need-larger-requires
 larger-requires c κs = search needs
 
--- src/lib.rt:77:18
 mul-plan : tie.Need-mul-plan
 mul-plan c = search needs
 
--- src/lib.rt:77:5
 element-write-plan-7 : tie.Need-element-write-plan-7
 element-write-plan-7 c = search needs
 
--- src/lib.rt:78:5
 element-write-plan-8 : tie.Need-element-write-plan-8
 element-write-plan-8 c = search needs
 
--- src/lib.rt:79:5
 element-write-plan-9 : tie.Need-element-write-plan-9
 element-write-plan-9 c = search needs
 
--- src/lib.rt:67:1
 returns : tie.Need-returns
 returns c =
     let m = c in

@@ -1,30 +1,22 @@
+-- `steps::plan_step` meets its contract: the layout with the source's zero, then the gate's plan.
+-- Assumes nothing.
 use borrow.Author.Needs.{needs}
 use Rattle.steps.proofs.Layouts.{plans}
 use Rattle.steps.proofs.plan_step.Statement.{statement}
 use Rattle.steps.proofs.plan_step.Tie as tie
-use Rattle.steps.proofs.plan_step.Reads as reads
-use Rattle.steps.proofs.plan_step.Lts as lts
-use Rattle.diagrams.proofs.zero_of.Reads as zero-of-reads
-use Rattle.steps.proofs.lay_out.Reads as lay-out-reads
-use Rattle.transitions.proofs.prepare.Reads as prepare-reads
 
--- src/lib.rt:98:9
 zero-of-requires : tie.Need-zero-of-requires
 zero-of-requires c κs = search needs
 
--- src/lib.rt:99:19
 mul-lay-out : tie.Need-mul-lay-out
 mul-lay-out c = search needs
 
--- src/lib.rt:99:5
 lay-out-requires : tie.Need-lay-out-requires
 lay-out-requires c κs = search needs
 
--- src/lib.rt:100:5
 prepare-requires : tie.Need-prepare-requires
 prepare-requires c κs = search needs
 
--- src/lib.rt:83:1
 returns : tie.Need-returns
 returns c =
     let l = c .before .before in
