@@ -208,7 +208,7 @@ unfolding refused
 answered-unstopped lent n e answered r is = answered r (ap (λ (x : Ended). outcome lent n x .report .verdict) is)
 
 -- its outcome is the miter's
-judged-miter : (lent : Lent) (n : ℕ) (s : List ℕ) (us vs : List Gate) (first second : Columns) → fits (length us) (length vs) s ≡ true
+pub judged-miter : (lent : Lent) (n : ℕ) (s : List ℕ) (us vs : List Gate) (first second : Columns) → fits (length us) (length vs) s ≡ true
     → Answered (judged lent n s us vs first second) → judged lent n s us vs first second ≡ outcome lent n (done (length us + length vs) (miter n us vs))
 unfolding judged
 judged-miter lent n s us vs first second fit answered =
