@@ -1,0 +1,5 @@
+pub mod Checks
+pub mod Rules
+pub mod Passing
+pub mod Reports
+pub mod Demands
