@@ -1,6 +1,6 @@
 -- A pair that passed the checks: what the run asks of it, and its answer.
 -- Assumes nothing.
-use mathlib.Core.Path.{_≡_, refl, sym, subst, subst₂}
+use mathlib.Core.Path.{_≡_, refl, sym, _∙_, ap, subst, subst₂}
 use mathlib.Core.List.{List}
 use Prim.Native.Nat.{ℕ}
 use native.Mathlib.Omega.{arith}
@@ -12,18 +12,22 @@ use Rattle.circuits.specs.Within.{Within}
 use Rattle.circuits.proofs.Remaining.{Remaining, decoded-accepted}
 use Rattle.circuits.proofs.Within.{decoded-within}
 use Rattle.diagrams.specs.Columns.{Columns}
+use Rattle.miters.specs.declared.Refusal.{Refusal}
+use Rattle.miters.specs.declared.Report.{Report}
 use Rattle.miters.specs.Miter.{steps}
+use Rattle.miters.specs.Report.{refused}
 use Rattle.miters.specs.Run.{ended, outcome, judged}
 use Rattle.steps.specs.declared.Sizes.{Sizes}
 use Rattle.steps.specs.Stepping.{Scratch, lent-with}
 use Rattle.runs.specs.declared.Offsets.{Offsets}
 use Rattle.runs.specs.Running.{Task}
-use Rattle.judges.specs.declared.Checked.the-variants.{Pair}
-use Rattle.judges.specs.Answer.{lengths, Checks, refuses, passes, checks, lent, answer}
-use Rattle.judges.specs.Calls.{checked, Passed}
+use Rattle.judges.specs.declared.Lengths.{Lengths}
+use Rattle.judges.specs.declared.Checked.the-variants.{Refused, Pair}
+use Rattle.judges.specs.Answer.{lengths, Checks, refuses, passes, checks, lent, answer-by, answer}
+use Rattle.judges.specs.Calls.{checked, Passed, AtMost, leaving}
 use Rattle.judges.specs.Table.{Checking, all-hold}
 use Rattle.judges.proofs.Checks.{checks-checking}
-use Rattle.judges.proofs.Rules.{first-long, second-long}
+use Rattle.judges.proofs.Rules.{both-hold, first-long, second-long}
 
 -- what the run is given, and that the answer is its outcome
 pub record Running (u v schedule : List ℕ) (n : ℕ) (offsets : Offsets) (sizes : Sizes) (first second : Columns)
@@ -77,3 +81,35 @@ module _ (u v schedule : List ℕ) (sizes : Sizes) (first second : Columns) (off
   pub passed-running : (n : ℕ) → Passed u v schedule (sizes .width) first second n offsets
       → Running u v schedule n offsets sizes first second terminals node-index value-index memo
   passed-running n e = checked-running n (checks u v schedule (sizes .width) (lengths first) (lengths second)) refl e
+
+  pub passed-task : (n : ℕ) → Passed u v schedule (sizes .width) first second n offsets
+      → Task u v schedule n offsets sizes first second terminals node-index value-index memo
+  passed-task n e = passed-running n e .task
+
+-- ---- before the run
+
+-- the stores of a pair that passed are no longer than the rules allow
+module _ (u v schedule : List ℕ) (w : ℕ) (first : Columns) (second : Lengths) where
+  pass-at-most : {c d : Circuit} → Checking u v schedule w (lengths first) second (passes c d) → AtMost 65536 first
+  pass-at-most (all-hold both one-count fitting) =
+      let ruled = both-hold (lengths first) second (both .lent-well .rules) .of-first in
+      record { nodes = ruled .few-nodes; values = ruled .few-values }
+
+  at-most-by : {n : ℕ} {offsets : Offsets} (x : Checks) → Checking u v schedule w (lengths first) second x → checked x ≡ Pair n offsets → AtMost 65536 first
+  at-most-by (refuses why) line e = let z : _≡_ {A = ℕ} 0 1 = cc in absurd (omega arith)
+  at-most-by (passes c d) line e = pass-at-most line
+
+  pub passed-at-most : {n : ℕ} {offsets : Offsets} → checked (checks u v schedule w (lengths first) second) ≡ Pair n offsets → AtMost 65536 first
+  passed-at-most e = at-most-by (checks u v schedule w (lengths first) second) (checks-checking u v schedule w (lengths first) second) e
+
+-- a refusal before the run leaves the stores alone
+module _ (u v schedule : List ℕ) (w : ℕ) (first second : Columns) where
+  refused-by : {why : Refusal} (x : Checks) → checked x ≡ Refused why → answer-by schedule w first second x ≡ leaving (refused why) first second
+  refused-by {why} (refuses other) e = let same : other ≡ why = cc in ap (λ (r : Refusal). leaving (refused r) first second) same
+  refused-by (passes c d) e = let z : _≡_ {A = ℕ} 0 1 = cc in absurd (omega arith)
+
+  pub refused-answer : {why : Refusal} {report : Report} → checked (checks u v schedule w (lengths first) (lengths second)) ≡ Refused why
+      → report ≡ refused why → leaving report first second ≡ answer u v schedule w first second
+  unfolding answer
+  refused-answer e reported =
+      ap (λ (r : Report). leaving r first second) reported ∙ sym (refused-by (checks u v schedule w (lengths first) (lengths second)) e)

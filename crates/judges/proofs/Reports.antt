@@ -1,6 +1,6 @@
 -- What is kept and reported of a run that ended is the outcome that the paper defines.
 -- Assumes nothing.
-use mathlib.Core.Path.{_≡_, refl, sym, _∙_, ap}
+use mathlib.Core.Path.{_≡_, sym, _∙_, ap, subst}
 use mathlib.Core.List.{List}
 use Prim.Native.Nat.{ℕ, _-_, _≤_}
 use native.Mathlib.Omega.{arith}
@@ -8,18 +8,27 @@ use lib.IntN.{ℤ, pos}
 use lib.ListN.{length, take, replicate}
 use Rattle.algebra.specs.Matrix.{Matrix}
 use Rattle.diagrams.specs.Diagram.{node, diagram}
-use Rattle.diagrams.specs.Columns.{Columns, columns, column, held, cleared, wiped, NodeColumns, ValueColumns}
+use Rattle.diagrams.specs.Columns.{Columns, column, held, cleared, wiped, NodeColumns, ValueColumns}
 use Rattle.diagrams.proofs.Stores.{wiped-held}
 use Rattle.miters.specs.declared.Report.{Report}
-use Rattle.miters.specs.Report.{finished}
-use Rattle.miters.specs.Run.{Lent, Ended, outcome}
+use Rattle.miters.specs.declared.Verdict.{Verdict}
+use Rattle.miters.specs.Report.{verdict, finished}
+use Rattle.miters.specs.Miter.{steps}
+use Rattle.miters.specs.Run.{Lent, Ended, ended, outcome}
 use Rattle.searches.specs.Slots.{store-in}
+use Rattle.searches.specs.Search.{given}
+use Rattle.searches.specs.Ready.{Searchable}
 use Rattle.searches.proofs.Held.{store-held, diagram-searchable, diagram-verdict}
 use Rattle.steps.specs.declared.Used.{Used}
-use Rattle.steps.specs.Stepping.{Source, Long}
+use Rattle.steps.specs.declared.Sizes.{Sizes}
+use Rattle.steps.specs.Stepping.{Source, Long, Scratch, lent-with}
+use Rattle.runs.specs.declared.Offsets.{Offsets}
 use Rattle.runs.specs.declared.End.{End}
-use Rattle.runs.specs.Running.{Ran, ran, refused}
-use Rattle.judges.specs.Calls.{kept, Readable, report-of, leaving}
+use Rattle.runs.specs.declared.End.the-variants.{Done}
+use Rattle.runs.specs.Running.{Task, Ran, ran, refused, Left}
+use Rattle.judges.specs.Answer.{answer}
+use Rattle.judges.specs.Calls.{Passed, kept, Readable, report-of, leaving}
+use Rattle.judges.proofs.Passing.{Running, passed-running}
 
 -- ---- columns that are all 0
 
@@ -36,21 +45,6 @@ wiped-cleared {C = C} long i = record {
   b = cleared-column (pos 0) (C .b) (long .of-b) i;
   c = cleared-column (pos 0) (C .c) (long .of-c) i;
   d = cleared-column (pos 0) (C .d) (long .of-d) i;
-}
-
--- columns as long as others
-pub still-long : {N L : ℕ} {C : Columns} {level low high : List ℕ} {a b c d : List ℤ} → Long N L C
-    → length level ≡ length (C .level) → length low ≡ length (C .low) → length high ≡ length (C .high)
-    → length a ≡ length (C .a) → length b ≡ length (C .b) → length c ≡ length (C .c) → length d ≡ length (C .d)
-    → Long N L (columns level low high a b c d)
-still-long long p q r s t u v = record {
-  of-level = p ∙ long .of-level;
-  of-low = q ∙ long .of-low;
-  of-high = r ∙ long .of-high;
-  of-a = s ∙ long .of-a;
-  of-b = t ∙ long .of-b;
-  of-c = u ∙ long .of-c;
-  of-d = v ∙ long .of-d;
 }
 
 -- ---- slots that are there
@@ -101,6 +95,17 @@ module _ {N L n : ℕ} {M : Matrix} {used : Used} {C : Columns} (source : Source
         let last : source .root .0 ≡ used .nodes - 1 = omega (arith, source .nodes, source .root .2) in
         source .root .1 ∙ ap node last
 
+-- ---- its report, by how it ended
+
+module _ (n : ℕ) (C : Columns) {r : End} where
+  pub done-searchable : {steps exponent : ℕ} {used : Used} → Readable n C r → r ≡ Done steps exponent used → Searchable n (used .nodes) (used .values) C
+  done-searchable readable e = subst (Readable n C) e readable
+
+  pub done-report : {steps exponent : ℕ} {used : Used} {v : Verdict} → r ≡ Done steps exponent used
+      → v ≡ verdict n (given (store-in (used .nodes) (used .values) C) (node (used .nodes - 1)))
+      → record { verdict = v; exponent = exponent; steps = steps; nodes = used .nodes; values = used .values } ≡ report-of n C r
+  done-report e f = rw (e, f)
+
 -- ---- how a run ended
 
 module _ {lent : Lent} {n : ℕ} {C : Columns} where
@@ -143,3 +148,81 @@ module _ {lent : Lent} {n : ℕ} {C : Columns} where
       ((other-is ∙ wiped-cleared other-long) i)
   ran-outcome refused used is long C′ wiped-is other-long other-is reported =
       λ i. leaving (reported i) ((rw is at wiped-is ∙ wiped-cleared long) i) ((other-is ∙ wiped-cleared other-long) i)
+
+-- ---- from the run to the answer
+
+-- columns as long as those before
+pub record Same-lengths (C C′ : Columns) : Type 0 where
+  pub of-level : length (C′ .level) ≡ length (C .level)
+  pub of-low : length (C′ .low) ≡ length (C .low)
+  pub of-high : length (C′ .high) ≡ length (C .high)
+  pub of-a : length (C′ .a) ≡ length (C .a)
+  pub of-b : length (C′ .b) ≡ length (C .b)
+  pub of-c : length (C′ .c) ≡ length (C .c)
+  pub of-d : length (C′ .d) ≡ length (C .d)
+
+still-long : {N L : ℕ} {C C′ : Columns} → Long N L C → Same-lengths C C′ → Long N L C′
+still-long long same = record {
+  of-level = same .of-level ∙ long .of-level;
+  of-low = same .of-low ∙ long .of-low;
+  of-high = same .of-high ∙ long .of-high;
+  of-a = same .of-a ∙ long .of-a;
+  of-b = same .of-b ∙ long .of-b;
+  of-c = same .of-c ∙ long .of-c;
+  of-d = same .of-d ∙ long .of-d;
+}
+
+-- a run of a pair that passed the checks: what it left in the stores, and how it ended
+pub record Run-over (u v schedule : List ℕ) (n : ℕ) (offsets : Offsets) (sizes : Sizes) (first second : Columns)
+    (terminals : List ℤ) (node-index value-index memo : List ℕ) (C D : Columns) (r : End) : Type 0 where
+  pub left : Left u v schedule n offsets sizes first second terminals node-index value-index memo C r
+  pub passed : Passed u v schedule (sizes .width) first second n offsets
+  pub scratch : Scratch (length (first .level)) (length (first .a)) sizes terminals node-index value-index memo
+  pub first-same : Same-lengths first C
+  pub second-same : Same-lengths second D
+
+module _ (u v schedule : List ℕ) (n : ℕ) (offsets : Offsets) (sizes : Sizes) (first second : Columns)
+    (terminals : List ℤ) (node-index value-index memo : List ℕ) (C D : Columns) (r : End)
+    (over : Run-over u v schedule n offsets sizes first second terminals node-index value-index memo C D r) where
+  abbrev running : Running u v schedule n offsets sizes first second terminals node-index value-index memo
+  running = passed-running u v schedule sizes first second offsets terminals node-index value-index memo (over .scratch) n (over .passed)
+
+  abbrev task : Task u v schedule n offsets sizes first second terminals node-index value-index memo
+  task = running .task
+
+  abbrev its-lent : Lent
+  its-lent = lent-with sizes (task .N) (task .L)
+
+  its-end : Ran its-lent n C (ended its-lent n (steps schedule (task .us) (task .vs))) r
+  its-end = over .left task
+
+  first-still : Long (task .N) (task .L) C
+  first-still = still-long (task .first-long) (over .first-same)
+
+  second-still : Long (task .N) (task .L) D
+  second-still = still-long (task .second-long) (over .second-same)
+
+  pub second-slots : Slots 0 0 D
+  second-slots = no-slots second-still
+
+  module _ (used : Used) (used-is : used ≡ kept r) where
+    pub first-slots : Slots (used .nodes) (used .values) C
+    first-slots = ran-slots its-end used used-is first-still
+
+    pub few-kept : (used .nodes ≤ 65536) × (used .values ≤ 65536)
+    few-kept =
+        let (nodes, values) = first-slots in
+        (
+          omega (arith, nodes .in-level, first-still .of-level, task .scratch .few-nodes),
+          omega (arith, values .in-a, first-still .of-a, task .scratch .few-values),
+        )
+
+    module _ (C′ : Columns) (wiped-is : C′ ≡ wiped (used .nodes) (used .values) C) where
+      pub over-readable : Same-lengths C C′ → Readable n C′ r
+      over-readable same = ran-readable its-end used used-is (task .within-u .some-qubit) (task .within-u .few-qubits)
+          (task .scratch .few-nodes) (task .scratch .few-values) C′ (still-long first-still same) wiped-is
+
+      pub over-answer : (D′ : Columns) → D′ ≡ wiped 0 0 D → {report : Report} → report ≡ report-of n C′ r
+          → leaving report C′ D′ ≡ answer u v schedule (sizes .width) first second
+      over-answer D′ other-is reported =
+          ran-outcome its-end used used-is first-still C′ wiped-is second-still other-is reported ∙ sym (running .answer-is)

@@ -1,7 +1,7 @@
 -- What the store rules say of columns.
 -- Assumes nothing.
 use mathlib.Core.Path.{_≡_, refl, sym, _∙_}
-use mathlib.Core.Bool.{true}
+use mathlib.Core.Bool.{Bool, true, false}
 use Prim.Native.Nat.{ℕ, _≤_}
 use lib.ListN.{length}
 use borrow.Author.Tests.{leb-true, eqb-true}
@@ -41,6 +41,14 @@ rules-hold l e =
       c = eqb-true _ _ c;
       d = eqb-true _ _ d;
     }
+
+-- a rule that is broken fails the test
+pub broken : (l : Lengths) → (Ruled l → ⊥) → false ≡ store-rules l
+broken l unruled = by-test (store-rules l) refl
+  where
+    by-test : (b : Bool) → store-rules l ≡ b → false ≡ b
+    by-test true e = absurd (unruled (rules-hold l e))
+    by-test false e = refl
 
 pub record Both-ruled (first second : Lengths) : Type 0 where
   pub of-first : Ruled first

@@ -56,20 +56,43 @@ fn byte(list: u32, why: circuits::Refusal) -> Checked
 fn fit(l: Lengths) -> bool
     ensures { λ r. ⌜ r ≡ store-rules l ⌝ }
 {
-    l.level <= 65536
-        && l.low == l.level
-        && l.high == l.level
-        && 1 <= l.a
-        && l.a <= 65536
-        && l.b == l.a
-        && l.c == l.a
-        && l.d == l.a
+    if 65536 < l.level {
+        return false;
+    }
+    if l.low != l.level {
+        return false;
+    }
+    if l.high != l.level {
+        return false;
+    }
+    if l.a < 1 {
+        return false;
+    }
+    if 65536 < l.a {
+        return false;
+    }
+    if l.b != l.a {
+        return false;
+    }
+    if l.c != l.a {
+        return false;
+    }
+    l.d == l.a
 }
 
 fn fit_both(first: Lengths, second: Lengths) -> bool
     ensures { λ r. ⌜ r ≡ both-rules first second ⌝ }
 {
-    fit(first) && fit(second) && first.level == second.level && first.a == second.a
+    if !fit(first) {
+        return false;
+    }
+    if !fit(second) {
+        return false;
+    }
+    if first.level != second.level {
+        return false;
+    }
+    first.a == second.a
 }
 
 fn check_lists(u: &[u8], v: &[u8], schedule: &[u8]) -> Checked

@@ -1,47 +1,48 @@
+-- `judges::check` meets its contract, test by test in the order of the table.
+-- Assumes nothing.
+use mathlib.Core.Path.{sym, _∙_}
+use borrow.Author.Tests.{le-leb, lt-leb, not-true, not-false}
+use Rattle.judges.specs.Answer.{checks}
 use borrow.Author.Needs.{needs}
 use Rattle.judges.proofs.check.Statement.{statement}
 use Rattle.judges.proofs.check.Tie as tie
-use Rattle.judges.proofs.check.Reads as reads
-use Rattle.judges.proofs.check.Lts as lts
-use Rattle.judges.proofs.call.Reads as call-reads
-use Rattle.judges.proofs.check_lists.Reads as check-lists-reads
-use Rattle.judges.proofs.fit_both.Reads as fit-both-reads
 
--- src/lib.rt:110:9
 call-requires : tie.Need-call-requires
 call-requires c κs = search needs
 
--- src/lib.rt:110:9
 returns : tie.Need-returns
-returns c = ?
+unfolding checks
+returns c = rw (lt-leb _ _ (c .before .if1 .taken)) (c .call .ensures)
 
--- src/lib.rt:113:9
 call-requires-2 : tie.Need-call-requires-2
 call-requires-2 c κs = search needs
 
--- src/lib.rt:113:9
 returns-2 : tie.Need-returns-2
-returns-2 c = ?
+unfolding checks
+returns-2 c = rw (le-leb _ _ (c .before .before .if1 .left), lt-leb _ _ (c .before .if2 .taken)) (c .call2 .ensures)
 
--- src/lib.rt:115:9
 fit-both-requires : tie.Need-fit-both-requires
 fit-both-requires c κs = search needs
 
--- src/lib.rt:116:9
 call-requires-3 : tie.Need-call-requires-3
 call-requires-3 c κs = search needs
 
--- src/lib.rt:116:9
 returns-3 : tie.Need-returns-3
-returns-3 c = ?
+unfolding checks
+returns-3 c =
+    let c3 = c .before in
+    let c2 = c3 .before .before in
+    rw (le-leb _ _ (c2 .before .if1 .left), le-leb _ _ (c2 .if2 .left), sym (c3 .before .fit-both .ensures) ∙ not-true _ (c3 .if3 .taken)) (c .call3 .ensures)
 
--- src/lib.rt:118:5
 check-lists-requires : tie.Need-check-lists-requires
 check-lists-requires c κs = search needs
 
--- src/lib.rt:106:1
 returns-4 : tie.Need-returns-4
-returns-4 c = ?
+unfolding checks
+returns-4 c =
+    let c3 = c .before in
+    let c2 = c3 .before .before in
+    rw (le-leb _ _ (c2 .before .if1 .left), le-leb _ _ (c2 .if2 .left), sym (c3 .before .fit-both .ensures) ∙ not-false _ (c3 .if3 .left)) (c .check-lists .ensures)
 
 pub check-spec : {M : Type 1} → statement M
 check-spec =

@@ -1,11 +1,13 @@
+-- `judges::refused` meets its contract.
+-- Assumes nothing.
+use mathlib.Core.Path.{refl}
+use Rattle.miters.specs.Report.{refused}
 use Rattle.judges.proofs.refused.Statement.{statement}
 use Rattle.judges.proofs.refused.Tie as tie
-use Rattle.judges.proofs.refused.Reads as reads
-use Rattle.judges.proofs.refused.Lts as lts
 
--- src/lib.rt:123:1
 returns : tie.Need-returns
-returns c = ?
+unfolding refused
+returns c = refl
 
 pub refused-spec : {M : Type 1} → statement M
 refused-spec = tie.close (tie.spec returns)
