@@ -6,6 +6,18 @@ use miters::Verdict;
 use runs::End;
 use runs::Offsets;
 use steps::Sizes;
+use steps::Used;
+ghost use mathlib.Core.Path.{_≡_};
+ghost use lib.ListN.{length};
+ghost use Rattle.diagrams.specs.Columns.{columns};
+ghost use Rattle.miters.specs.declared.Refusal.the-variants.{Call};
+ghost use Rattle.miters.specs.Report.{refused};
+ghost use Rattle.steps.specs.Stepping.{Scratch};
+ghost use Rattle.judges.specs.declared.Checked.the-variants.{Refused};
+ghost use Rattle.judges.specs.Answer.{store-rules, both-rules, at-byte, check-lists, checks, answer};
+ghost use Rattle.judges.specs.Calls.{checked, Passed, AtMost, kept, Readable, report-of, leaving};
+
+// ---- the checks
 
 // The lengths of a store's columns.
 struct Lengths {
@@ -18,27 +30,21 @@ struct Lengths {
     d: usize,
 }
 
-// What the checks before the run find.
+// What the checks before the run find: a refusal, or the qubit count and where the gates of the two lists begin.
 enum Checked {
     Refused(Refusal),
     Pair { n: u32, offsets: Offsets },
 }
 
-fn refused(why: Refusal) -> Report {
-    Report {
-        verdict: Verdict::Refused(why),
-        exponent: 0,
-        steps: 0,
-        nodes: 0,
-        values: 0,
-    }
-}
-
-fn call(number: u32) -> Checked {
+fn call(number: u32) -> Checked
+    ensures { λ r. ⌜ r ≡ Refused (Call number) ⌝ }
+{
     Checked::Refused(Refusal::Call { number })
 }
 
-fn byte(list: u32, why: circuits::Refusal) -> Checked {
+fn byte(list: u32, why: circuits::Refusal) -> Checked
+    ensures { λ r. ⌜ r ≡ Refused (at-byte list why) ⌝ }
+{
     Checked::Refused(Refusal::Byte {
         number: why.number,
         list,
@@ -47,8 +53,10 @@ fn byte(list: u32, why: circuits::Refusal) -> Checked {
 }
 
 // Three node columns of one length up to 65,536, four value columns of one length from 1 to 65,536.
-fn fit(l: Lengths) -> bool {
-    if l.level > 65536 {
+fn fit(l: Lengths) -> bool
+    ensures { λ r. ⌜ r ≡ store-rules l ⌝ }
+{
+    if 65536 < l.level {
         return false;
     }
     if l.low != l.level {
@@ -57,10 +65,10 @@ fn fit(l: Lengths) -> bool {
     if l.high != l.level {
         return false;
     }
-    if l.a == 0 {
+    if l.a < 1 {
         return false;
     }
-    if l.a > 65536 {
+    if 65536 < l.a {
         return false;
     }
     if l.b != l.a {
@@ -72,7 +80,9 @@ fn fit(l: Lengths) -> bool {
     l.d == l.a
 }
 
-fn fit_both(first: Lengths, second: Lengths) -> bool {
+fn fit_both(first: Lengths, second: Lengths) -> bool
+    ensures { λ r. ⌜ r ≡ both-rules first second ⌝ }
+{
     if !fit(first) {
         return false;
     }
@@ -85,7 +95,9 @@ fn fit_both(first: Lengths, second: Lengths) -> bool {
     first.a == second.a
 }
 
-fn check_pair(u: &[u8], v: &[u8], schedule: &[u8]) -> Checked {
+fn check_lists(u: &[u8], v: &[u8], schedule: &[u8]) -> Checked
+    ensures { λ r. ⌜ r ≡ checked (check-lists (now (u .entry)) (now (v .entry)) (now (schedule .entry))) ⌝ }
+{
     match circuits::check_list(u, circuits::base_limits()) {
         ListRead::Refused(why) => byte(1, why),
         ListRead::List {
@@ -114,7 +126,9 @@ fn check_pair(u: &[u8], v: &[u8], schedule: &[u8]) -> Checked {
     }
 }
 
-fn check(u: &[u8], v: &[u8], schedule: &[u8], w: u32, first: Lengths, second: Lengths) -> Checked {
+fn check(u: &[u8], v: &[u8], schedule: &[u8], w: u32, first: Lengths, second: Lengths) -> Checked
+    ensures { λ r. ⌜ r ≡ checked (checks (now (u .entry)) (now (v .entry)) (now (schedule .entry)) w first second) ⌝ }
+{
     if w < 2 {
         return call(1);
     }
@@ -124,9 +138,80 @@ fn check(u: &[u8], v: &[u8], schedule: &[u8], w: u32, first: Lengths, second: Le
     if !fit_both(first, second) {
         return call(2);
     }
-    check_pair(u, v, schedule)
+    check_lists(u, v, schedule)
 }
 
+// ---- the report
+
+fn refused(why: Refusal) -> Report
+    ensures { λ r. ⌜ r ≡ refused why ⌝ }
+{
+    Report {
+        verdict: Verdict::Refused(why),
+        exponent: 0,
+        steps: 0,
+        nodes: 0,
+        values: 0,
+    }
+}
+
+// How much of the first store is kept after a run.
+fn kept(ended: End) -> Used
+    ensures { λ r. ⌜ r ≡ kept ended ⌝ }
+{
+    match ended {
+        End::Stopped(_why) => Used {
+            nodes: 0,
+            values: 0,
+        },
+        End::Done {
+            steps: _steps,
+            exponent: _exponent,
+            used,
+        } => used,
+    }
+}
+
+// The report of a run, with the verdict read off the first store.
+fn report(
+    level: &[u32],
+    low: &[u32],
+    high: &[u32],
+    a: &[i32],
+    b: &[i32],
+    c: &[i32],
+    d: &[i32],
+    n: u32,
+    ended: End,
+) -> Report
+    requires { ⌜ Readable n (columns (now level) (now low) (now high) (now a) (now b) (now c) (now d)) ended ⌝ }
+    ensures { λ r. ⌜ r ≡ report-of n
+        (columns (now (level .entry)) (now (low .entry)) (now (high .entry)) (now (a .entry)) (now (b .entry)) (now (c .entry)) (now (d .entry))) ended ⌝ }
+{
+    match ended {
+        End::Stopped(why) => refused(why),
+        End::Done {
+            steps,
+            exponent,
+            used,
+        } => {
+            let nodes = used.nodes;
+            let values = used.values;
+            let verdict = searches::read_verdict(level, low, high, a, b, c, d, nodes, values, n);
+            Report {
+                verdict,
+                exponent,
+                steps,
+                nodes,
+                values,
+            }
+        }
+    }
+}
+
+// ---- the run
+
+// The run of a pair that passed the checks, in scratch that has room for it; the second store and what the first does not keep become 0.
 fn judge_in(
     u: &[u8],
     v: &[u8],
@@ -152,7 +237,18 @@ fn judge_in(
     node_index: &mut [u32],
     value_index: &mut [u32],
     memo: &mut [u32],
-) -> Report {
+) -> Report
+    requires { ⌜ Passed (now u) (now v) (now schedule) (sizes .width)
+        (columns (now level) (now low) (now high) (now a) (now b) (now c) (now d))
+        (columns (now «other_level») (now «other_low») (now «other_high») (now «other_a») (now «other_b») (now «other_c») (now «other_d»)) n offsets ⌝ }
+    requires { ⌜ Scratch (length (now level)) (length (now a)) sizes (now terminals) (now «node_index») (now «value_index») (now memo) ⌝ }
+    ensures { λ r. ⌜ leaving r
+        (columns (now (level .exit)) (now (low .exit)) (now (high .exit)) (now (a .exit)) (now (b .exit)) (now (c .exit)) (now (d .exit)))
+        (columns (now («other_level» .exit)) (now («other_low» .exit)) (now («other_high» .exit)) (now («other_a» .exit)) (now («other_b» .exit)) (now («other_c» .exit)) (now («other_d» .exit)))
+        ≡ answer (now (u .entry)) (now (v .entry)) (now (schedule .entry)) (sizes .width)
+        (columns (now (level .entry)) (now (low .entry)) (now (high .entry)) (now (a .entry)) (now (b .entry)) (now (c .entry)) (now (d .entry)))
+        (columns (now («other_level» .entry)) (now («other_low» .entry)) (now («other_high» .entry)) (now («other_a» .entry)) (now («other_b» .entry)) (now («other_c» .entry)) (now («other_d» .entry))) ⌝ }
+{
     let ended = runs::run(
         u,
         v,
@@ -190,41 +286,22 @@ fn judge_in(
         0,
         0,
     );
-    match ended {
-        End::Stopped(why) => {
-            diagrams::wipe(level, low, high, a, b, c, d, 0, 0);
-            refused(why)
-        }
-        End::Done {
-            steps,
-            exponent,
-            used,
-        } => {
-            let nodes = used.nodes;
-            let values = used.values;
-            diagrams::wipe(
-                level,
-                low,
-                high,
-                a,
-                b,
-                c,
-                d,
-                nodes as usize,
-                values as usize,
-            );
-            let verdict = searches::read_verdict(level, low, high, a, b, c, d, nodes, values, n);
-            Report {
-                verdict,
-                exponent,
-                steps,
-                nodes,
-                values,
-            }
-        }
-    }
+    let used = kept(ended);
+    diagrams::wipe(
+        level,
+        low,
+        high,
+        a,
+        b,
+        c,
+        d,
+        used.nodes as usize,
+        used.values as usize,
+    );
+    report(level, low, high, a, b, c, d, n, ended)
 }
 
+// Stores of up to 4,096 nodes and values: scratch of 393,216 bytes.
 fn judge_small(
     u: &[u8],
     v: &[u8],
@@ -246,7 +323,18 @@ fn judge_small(
     other_b: &mut [i32],
     other_c: &mut [i32],
     other_d: &mut [i32],
-) -> Report {
+) -> Report
+    requires { ⌜ Passed (now u) (now v) (now schedule) width
+        (columns (now level) (now low) (now high) (now a) (now b) (now c) (now d))
+        (columns (now «other_level») (now «other_low») (now «other_high») (now «other_a») (now «other_b») (now «other_c») (now «other_d»)) n offsets ⌝ }
+    requires { ⌜ AtMost 4096 (columns (now level) (now low) (now high) (now a) (now b) (now c) (now d)) ⌝ }
+    ensures { λ r. ⌜ leaving r
+        (columns (now (level .exit)) (now (low .exit)) (now (high .exit)) (now (a .exit)) (now (b .exit)) (now (c .exit)) (now (d .exit)))
+        (columns (now («other_level» .exit)) (now («other_low» .exit)) (now («other_high» .exit)) (now («other_a» .exit)) (now («other_b» .exit)) (now («other_c» .exit)) (now («other_d» .exit)))
+        ≡ answer (now (u .entry)) (now (v .entry)) (now (schedule .entry)) width
+        (columns (now (level .entry)) (now (low .entry)) (now (high .entry)) (now (a .entry)) (now (b .entry)) (now (c .entry)) (now (d .entry)))
+        (columns (now («other_level» .entry)) (now («other_low» .entry)) (now («other_high» .entry)) (now («other_a» .entry)) (now («other_b» .entry)) (now («other_c» .entry)) (now («other_d» .entry))) ⌝ }
+{
     let mut terminals = [0; 16384];
     let mut node_index = [0; 12288];
     let mut value_index = [0; 12288];
@@ -285,6 +373,7 @@ fn judge_small(
     )
 }
 
+// Stores of any lengths that the rules allow: scratch of 4,718,592 bytes.
 fn judge_large(
     u: &[u8],
     v: &[u8],
@@ -306,7 +395,18 @@ fn judge_large(
     other_b: &mut [i32],
     other_c: &mut [i32],
     other_d: &mut [i32],
-) -> Report {
+) -> Report
+    requires { ⌜ Passed (now u) (now v) (now schedule) width
+        (columns (now level) (now low) (now high) (now a) (now b) (now c) (now d))
+        (columns (now «other_level») (now «other_low») (now «other_high») (now «other_a») (now «other_b») (now «other_c») (now «other_d»)) n offsets ⌝ }
+    requires { ⌜ AtMost 65536 (columns (now level) (now low) (now high) (now a) (now b) (now c) (now d)) ⌝ }
+    ensures { λ r. ⌜ leaving r
+        (columns (now (level .exit)) (now (low .exit)) (now (high .exit)) (now (a .exit)) (now (b .exit)) (now (c .exit)) (now (d .exit)))
+        (columns (now («other_level» .exit)) (now («other_low» .exit)) (now («other_high» .exit)) (now («other_a» .exit)) (now («other_b» .exit)) (now («other_c» .exit)) (now («other_d» .exit)))
+        ≡ answer (now (u .entry)) (now (v .entry)) (now (schedule .entry)) width
+        (columns (now (level .entry)) (now (low .entry)) (now (high .entry)) (now (a .entry)) (now (b .entry)) (now (c .entry)) (now (d .entry)))
+        (columns (now («other_level» .entry)) (now («other_low» .entry)) (now («other_high» .entry)) (now («other_a» .entry)) (now («other_b» .entry)) (now («other_c» .entry)) (now («other_d» .entry))) ⌝ }
+{
     let mut terminals = [0; 262144];
     let mut node_index = [0; 131072];
     let mut value_index = [0; 131072];
@@ -365,7 +465,14 @@ pub fn judge(
     other_b: &mut [i32],
     other_c: &mut [i32],
     other_d: &mut [i32],
-) -> Report {
+) -> Report
+    ensures { λ r. ⌜ leaving r
+        (columns (now (level .exit)) (now (low .exit)) (now (high .exit)) (now (a .exit)) (now (b .exit)) (now (c .exit)) (now (d .exit)))
+        (columns (now («other_level» .exit)) (now («other_low» .exit)) (now («other_high» .exit)) (now («other_a» .exit)) (now («other_b» .exit)) (now («other_c» .exit)) (now («other_d» .exit)))
+        ≡ answer (now (u .entry)) (now (v .entry)) (now (schedule .entry)) w
+        (columns (now (level .entry)) (now (low .entry)) (now (high .entry)) (now (a .entry)) (now (b .entry)) (now (c .entry)) (now (d .entry)))
+        (columns (now («other_level» .entry)) (now («other_low» .entry)) (now («other_high» .entry)) (now («other_a» .entry)) (now («other_b» .entry)) (now («other_c» .entry)) (now («other_d» .entry))) ⌝ }
+{
     let first = Lengths {
         level: level.len(),
         low: low.len(),
@@ -387,53 +494,54 @@ pub fn judge(
     match check(u, v, schedule, w, first, second) {
         Checked::Refused(why) => refused(why),
         Checked::Pair { n, offsets } => {
-            if first.level <= 4096 && first.a <= 4096 {
-                judge_small(
-                    u,
-                    v,
-                    schedule,
-                    n,
-                    offsets,
-                    w,
-                    level,
-                    low,
-                    high,
-                    a,
-                    b,
-                    c,
-                    d,
-                    other_level,
-                    other_low,
-                    other_high,
-                    other_a,
-                    other_b,
-                    other_c,
-                    other_d,
-                )
-            } else {
-                judge_large(
-                    u,
-                    v,
-                    schedule,
-                    n,
-                    offsets,
-                    w,
-                    level,
-                    low,
-                    high,
-                    a,
-                    b,
-                    c,
-                    d,
-                    other_level,
-                    other_low,
-                    other_high,
-                    other_a,
-                    other_b,
-                    other_c,
-                    other_d,
-                )
+            if first.level <= 4096 {
+                if first.a <= 4096 {
+                    return judge_small(
+                        u,
+                        v,
+                        schedule,
+                        n,
+                        offsets,
+                        w,
+                        level,
+                        low,
+                        high,
+                        a,
+                        b,
+                        c,
+                        d,
+                        other_level,
+                        other_low,
+                        other_high,
+                        other_a,
+                        other_b,
+                        other_c,
+                        other_d,
+                    );
+                }
             }
+            judge_large(
+                u,
+                v,
+                schedule,
+                n,
+                offsets,
+                w,
+                level,
+                low,
+                high,
+                a,
+                b,
+                c,
+                d,
+                other_level,
+                other_low,
+                other_high,
+                other_a,
+                other_b,
+                other_c,
+                other_d,
+            )
         }
     }
 }

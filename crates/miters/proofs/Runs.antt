@@ -145,6 +145,41 @@ module _ (lent : Lent) (n : ℕ) where
       by-test true room = follows room (follow-follows 0 ss start)
       by-test false room = full-at-once room
 
+  -- it ends so in no other way
+  module _ (before : ℕ) (M : Over) (s : Step) (ss : List Step) where
+    abbrev Rest-only : Type 0
+    Rest-only = (e : Ended) → Follows (suc before) (stepped n s M) ss e → follow lent n (suc before) ss (stepped n s M) ≡ e
+
+    pass-rest : (k : ℕ) → Pass M (s ∷ ss) (suc k) → Pass (stepped n s M) ss k
+    pass-rest k pass i h = pass (suc i) (omega arith)
+
+    passed-on : (k : ℕ) → Pass M (s ∷ ss) (suc k) → {e : Ended} → Follows (suc before) (stepped n s M) ss e → Rest-only
+        → follow lent n before (s ∷ ss) M ≡ e
+    passed-on k pass rest only = let first = pass 0 (omega arith) in follow-on before M s ss (first .0) (first .1) ∙ only _ rest
+
+    follows-step-only : Rest-only → {e : Ended} → Follows before M (s ∷ ss) e → follow lent n before (s ∷ ss) M ≡ e
+    follows-step-only only (finishes pass) =
+        passed-on (length ss) pass (finishes (pass-rest (length ss) pass)) only ∙ ap (λ (k : ℕ). done k (run n ss (stepped n s M))) (omega arith)
+    follows-step-only only (too-wide zero h pass out) =
+        follow-too-wide before M s ss out ∙ ap (λ (k : ℕ). stopped (at-step 13 k)) (sym (add-zero before))
+    follows-step-only only (too-wide (suc k) h pass out) =
+        passed-on k pass (too-wide k (omega arith) (pass-rest k pass) out) only ∙ ap (λ (i : ℕ). stopped (at-step 13 i)) (omega arith)
+    follows-step-only only (too-full zero h pass fit out) =
+        follow-too-full before M s ss fit out ∙ ap (λ (k : ℕ). stopped (at-step 14 k)) (sym (add-zero before))
+    follows-step-only only (too-full (suc k) h pass fit out) =
+        passed-on k pass (too-full k (omega arith) (pass-rest k pass) fit out) only ∙ ap (λ (i : ℕ). stopped (at-step 14 i)) (omega arith)
+
+  follows-only : (before : ℕ) (ss : List Step) (M : Over) {e : Ended} → Follows before M ss e → follow lent n before ss M ≡ e
+  follows-only before [] M (finishes pass) = ap (λ (k : ℕ). done k M) (sym (add-zero before))
+  follows-only before [] M (too-wide k h pass out) = absurd (omega arith)
+  follows-only before [] M (too-full k h pass fit out) = absurd (omega arith)
+  follows-only before (s ∷ ss) M on = follows-step-only before M s ss (λ e rest. follows-only (suc before) ss (stepped n s M) rest) on
+
+  pub ends-only : (ss : List Step) {e : Ended} → Ends ss e → ended lent n ss ≡ e
+  unfolding ended
+  ends-only ss (full-at-once room) = rw room
+  ends-only ss (follows room on) = rw room (follows-only 0 ss start on)
+
   unstopped-done : (ss : List Step) {e : Ended} → Ends ss e → Unstopped e → e ≡ done (length ss) (run n ss start)
   unstopped-done ss (full-at-once room) unstopped = absurd (unstopped _ refl)
   unstopped-done ss (follows room (finishes pass)) unstopped = ap (λ (k : ℕ). done k (run n ss start)) (zero-add (length ss))
@@ -208,7 +243,7 @@ unfolding refused
 answered-unstopped lent n e answered r is = answered r (ap (λ (x : Ended). outcome lent n x .report .verdict) is)
 
 -- its outcome is the miter's
-judged-miter : (lent : Lent) (n : ℕ) (s : List ℕ) (us vs : List Gate) (first second : Columns) → fits (length us) (length vs) s ≡ true
+pub judged-miter : (lent : Lent) (n : ℕ) (s : List ℕ) (us vs : List Gate) (first second : Columns) → fits (length us) (length vs) s ≡ true
     → Answered (judged lent n s us vs first second) → judged lent n s us vs first second ≡ outcome lent n (done (length us + length vs) (miter n us vs))
 unfolding judged
 judged-miter lent n s us vs first second fit answered =
