@@ -2,17 +2,17 @@
 -- Assumes nothing.
 use mathlib.Core.Path.{_≡_, refl, sym, _∙_, ap, subst}
 use mathlib.Core.Bool.{Bool, true, false}
-use mathlib.Core.List.{List, [], _∷_}
-use Prim.Native.Nat.{ℕ, zero, suc, _<_, _≤_}
+use mathlib.Core.List.{List}
+use Prim.Native.Nat.{ℕ, _<_, _≤_}
 use native.Mathlib.Omega.{arith}
 use Rattle.gates.specs.declared.Rule.{Rule}
 use Rattle.gates.specs.declared.Decision.{Decision}
 use Rattle.gates.specs.declared.Decision.the-variants.{Known, Unknown}
-use Rattle.gates.specs.Gate.{Kind, X, Y, Z, H, S, S†, T, T†, Pair, CNOT, CZ, Gate, on, pair, Fits, inverse, halves}
+use Rattle.gates.specs.Gate.{X, Y, Z, H, S, S†, T, T†, CNOT, CZ, Gate, on, pair, Fits, inverse, halves}
 use Rattle.gates.specs.Rule.{decision, gate-rule, target}
 use Rattle.gates.proofs.Inverses.{inverse-fits}
 use Rattle.circuits.specs.declared.GateRead.{GateRead}
-use Rattle.circuits.specs.Reading.{read, gate}
+use Rattle.circuits.specs.Reading.{gate}
 use Rattle.circuits.specs.Codes.{gate-code}
 use Rattle.circuits.specs.Answers.{control, gate-answer}
 use Rattle.circuits.proofs.Codes.{gate-decided}
@@ -111,12 +111,11 @@ module _ {answer : GateRead} (bytes : List ℕ) (at n side : ℕ) (answered : an
       → Read bytes at n side (record { action = record { rule = rule; side = side; control = c; target = t }; next = next })
   gate-taken {code} {c} {t} {next} rule is-gate rules right g next′ s few fits reads =
       let same : GateRead.Gate code c t next ≡ GateRead.Gate (gate-code g) (control g) (target g) next′ =
-          sym is-gate ∙ answered ∙ ap gate-answer reads in
+      sym is-gate ∙ answered ∙ ap gate-answer reads in
       let code-is : code ≡ gate-code g = cc in
       let control-is : c ≡ control g = cc in
       let target-is : t ≡ target g = cc in
-      let next-is : next ≡ next′ = cc in
-      (
+      let next-is : next ≡ next′ = cc in (
         record {
           fits = sided-fits n right g fits;
           rule = rules right g s code-is;
@@ -147,8 +146,7 @@ module _ (u v : List ℕ) (n : ℕ) (offsets : Offsets) (taken : Taken) where
       → Read u (offsets .first) n 0 taken → n ≤ 16 → Lists n u v offsets us vs → Acts n right g (taken .action) × Lists n u v (after-U .offsets) us′ vs′
   from-first (from-U {g = g} {us = us}) e reads few lists =
       let next = remaining-next n u (offsets .first) g us (lists .gates-u) in
-      let r = reads false g (next .next) refl few (lists .fit-u .0) (next .gate-here) in
-      (
+      let r = reads false g (next .next) refl few (lists .fit-u .0) (next .gate-here) in (
         r .0,
         record {
           gates-u = subst (λ (at : ℕ). Remaining n u at us) (sym (r .1)) (next .others);
@@ -164,8 +162,7 @@ module _ (u v : List ℕ) (n : ℕ) (offsets : Offsets) (taken : Taken) where
   from-second from-U e reads few lists = absurd (e refl)
   from-second (from-V {g = g} {vs = vs}) e reads few lists =
       let next = remaining-next n v (offsets .second) g vs (lists .gates-v) in
-      let r = reads true g (next .next) refl few (lists .fit-v .0) (next .gate-here) in
-      (
+      let r = reads true g (next .next) refl few (lists .fit-v .0) (next .gate-here) in (
         r .0,
         record {
           gates-u = lists .gates-u;
