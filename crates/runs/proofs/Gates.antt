@@ -2,17 +2,17 @@
 -- Assumes nothing.
 use mathlib.Core.Path.{_≡_, refl, sym, _∙_, ap, subst}
 use mathlib.Core.Bool.{Bool, true, false}
-use mathlib.Core.List.{List, [], _∷_}
-use Prim.Native.Nat.{ℕ, zero, suc, _<_, _≤_}
+use mathlib.Core.List.{List}
+use Prim.Native.Nat.{ℕ, _<_, _≤_}
 use native.Mathlib.Omega.{arith}
 use Rattle.gates.specs.declared.Rule.{Rule}
 use Rattle.gates.specs.declared.Decision.{Decision}
 use Rattle.gates.specs.declared.Decision.the-variants.{Known, Unknown}
-use Rattle.gates.specs.Gate.{Kind, X, Y, Z, H, S, S†, T, T†, Pair, CNOT, CZ, Gate, on, pair, Fits, inverse, halves}
+use Rattle.gates.specs.Gate.{X, Y, Z, H, S, S†, T, T†, CNOT, CZ, Gate, on, pair, Fits, inverse, halves}
 use Rattle.gates.specs.Rule.{decision, gate-rule, target}
 use Rattle.gates.proofs.Inverses.{inverse-fits}
 use Rattle.circuits.specs.declared.GateRead.{GateRead}
-use Rattle.circuits.specs.Reading.{read, gate}
+use Rattle.circuits.specs.Reading.{gate}
 use Rattle.circuits.specs.Codes.{gate-code}
 use Rattle.circuits.specs.Answers.{control, gate-answer}
 use Rattle.circuits.proofs.Codes.{gate-decided}

@@ -1,6 +1,6 @@
 -- Schedules that fit, step by step; and what a run has come to: the miter of the gates taken so far, whose root is its last node.
 -- Assumes nothing.
-use mathlib.Core.Path.{_≡_, refl, sym, _∙_, ap, ap₂, subst, _≡⟨_⟩_, _∎}
+use mathlib.Core.Path.{_≡_, refl, sym, _∙_, ap, subst, _≡⟨_⟩_, _∎}
 use mathlib.Core.Bool.{Bool, true, false, cond, _&&_, true≢false}
 use mathlib.Core.List.{List, [], _∷_, _++_}
 use Prim.Native.Nat.{ℕ, zero, suc, _+_, _≤_}
@@ -8,7 +8,7 @@ use native.Mathlib.Omega.{arith}
 use borrow.Author.Tests.{eqb-true, eq-eqb}
 use lib.Dec.{eqb, leb, leb·suc-zero, leb·suc-suc}
 use lib.ListN.{length, length-append}
-use Rattle.gates.specs.Gate.{Gate, All-fit, Fits, inverse}
+use Rattle.gates.specs.Gate.{Gate, All-fit, inverse}
 use Rattle.schedules.specs.Schedule.{count, only-steps, fits}
 use Rattle.diagrams.specs.Diagram.{node, diagram}
 use Rattle.diagrams.proofs.Tests.{both-true, true-both}
@@ -123,9 +123,9 @@ steps-after (b ∷ s) t us vs us₁ vs₁ f =
     by-takes (from-U {g = g}) e = ap (λ (l : List Step). left g ∷ l) e
     by-takes (from-V {g = g}) e = ap (λ (l : List Step). right (inverse g) ∷ l) e
 
-run-after : (n : ℕ) (ss tt₁ : List Step) (M : Over) → run n (ss ++ tt₁) M ≡ run n tt₁ (run n ss M)
-run-after n [] tt₁ M = refl
-run-after n (s ∷ ss) tt₁ M = run-after n ss tt₁ (stepped n s M)
+run-after : (n : ℕ) (ss more : List Step) (M : Over) → run n (ss ++ more) M ≡ run n more (run n ss M)
+run-after n [] more M = refl
+run-after n (s ∷ ss) more M = run-after n ss more (stepped n s M)
 
 fit-after : (n : ℕ) (us us₁ : List Gate) → All-fit n us → All-fit n us₁ → All-fit n (us ++ us₁)
 fit-after n [] us₁ f g = g

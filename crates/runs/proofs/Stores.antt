@@ -2,7 +2,7 @@
 -- Assumes nothing.
 use mathlib.Core.Path.{_≡_, refl, sym, _∙_, ap, ap₂, subst}
 use mathlib.Core.Bool.{Bool, true, false, cond, _&&_, and-false}
-use mathlib.Core.List.{List, [], _∷_}
+use mathlib.Core.List.{List}
 use Prim.Native.Nat.{ℕ, zero, suc, _+_, _*_, _%_, _<_, _≤_}
 use native.Mathlib.Omega.{arith}
 use borrow.Author.Tests.{eq-eqb, ne-eqb, eqb-true, eqb-false, le-leb, lt-leb}
@@ -11,7 +11,7 @@ use lib.IntN.{ℤ}
 use lib.ListN.{length}
 use Rattle.algebra.specs.declared.Entry.{Entry}
 use Rattle.algebra.specs.Matrix.{identity}
-use Rattle.diagrams.specs.Diagram.{Ref, node, Diagram, rooted, diagram}
+use Rattle.diagrams.specs.Diagram.{node, Diagram, rooted, diagram}
 use Rattle.diagrams.specs.Columns.{Columns, columns, Holds, written}
 use Rattle.diagrams.specs.Identity.{identity-root, identity-nodes, identity-store}
 use Rattle.diagrams.proofs.Identities.{length-identity}

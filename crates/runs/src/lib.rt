@@ -176,10 +176,13 @@ fn begin(
 )
     requires { ⌜ Room n (columns (now level) (now low) (now high) (now a) (now b) (now c) (now d))
         (columns (now «other_level») (now «other_low») (now «other_high») (now «other_a») (now «other_b») (now «other_c») (now «other_d»)) ⌝ }
-    ensures { λ _. ⌜ Begun left n (columns (now (level .entry)) (now (low .entry)) (now (high .entry)) (now (a .entry)) (now (b .entry)) (now (c .entry)) (now (d .entry)))
-        (columns (now («other_level» .entry)) (now («other_low» .entry)) (now («other_high» .entry)) (now («other_a» .entry)) (now («other_b» .entry)) (now («other_c» .entry)) (now («other_d» .entry)))
+    ensures { λ _. ⌜ Begun left n (columns (now (level .entry)) (now (low .entry)) (now (high .entry))
+        (now (a .entry)) (now (b .entry)) (now (c .entry)) (now (d .entry)))
+        (columns (now («other_level» .entry)) (now («other_low» .entry)) (now («other_high» .entry))
+        (now («other_a» .entry)) (now («other_b» .entry)) (now («other_c» .entry)) (now («other_d» .entry)))
         (columns (now (level .exit)) (now (low .exit)) (now (high .exit)) (now (a .exit)) (now (b .exit)) (now (c .exit)) (now (d .exit)))
-        (columns (now («other_level» .exit)) (now («other_low» .exit)) (now («other_high» .exit)) (now («other_a» .exit)) (now («other_b» .exit)) (now («other_c» .exit)) (now («other_d» .exit))) ⌝ }
+        (columns (now («other_level» .exit)) (now («other_low» .exit)) (now («other_high» .exit))
+        (now («other_a» .exit)) (now («other_b» .exit)) (now («other_c» .exit)) (now («other_d» .exit))) ⌝ }
 {
     if left % 2 == 0 {
         diagrams::identity(n, level, low, high, a, b, c, d);
@@ -226,16 +229,21 @@ fn advance(
     requires { ⌜ stepping.Task action n sizes (used-in (now tally))
         (current left (columns (now level) (now low) (now high) (now a) (now b) (now c) (now d))
         (columns (now «other_level») (now «other_low») (now «other_high») (now «other_a») (now «other_b») (now «other_c») (now «other_d»)))
-        (current left (columns (now «other_level») (now «other_low») (now «other_high») (now «other_a») (now «other_b») (now «other_c») (now «other_d»))
+        (current left (columns (now «other_level») (now «other_low») (now «other_high»)
+        (now «other_a») (now «other_b») (now «other_c») (now «other_d»))
         (columns (now level) (now low) (now high) (now a) (now b) (now c) (now d)))
         (now terminals) (now «node_index») (now «value_index») (now memo) ⌝ }
     ensures { λ _. ⌜ stepping.Left action n sizes (used-in (now (tally .entry)))
-        (current left (columns (now (level .entry)) (now (low .entry)) (now (high .entry)) (now (a .entry)) (now (b .entry)) (now (c .entry)) (now (d .entry)))
-        (columns (now («other_level» .entry)) (now («other_low» .entry)) (now («other_high» .entry)) (now («other_a» .entry)) (now («other_b» .entry)) (now («other_c» .entry)) (now («other_d» .entry))))
-        (current left (columns (now («other_level» .entry)) (now («other_low» .entry)) (now («other_high» .entry)) (now («other_a» .entry)) (now («other_b» .entry)) (now («other_c» .entry)) (now («other_d» .entry)))
+        (current left (columns (now (level .entry)) (now (low .entry)) (now (high .entry))
+        (now (a .entry)) (now (b .entry)) (now (c .entry)) (now (d .entry)))
+        (columns (now («other_level» .entry)) (now («other_low» .entry)) (now («other_high» .entry))
+        (now («other_a» .entry)) (now («other_b» .entry)) (now («other_c» .entry)) (now («other_d» .entry))))
+        (current left (columns (now («other_level» .entry)) (now («other_low» .entry)) (now («other_high» .entry))
+        (now («other_a» .entry)) (now («other_b» .entry)) (now («other_c» .entry)) (now («other_d» .entry)))
         (columns (now (level .entry)) (now (low .entry)) (now (high .entry)) (now (a .entry)) (now (b .entry)) (now (c .entry)) (now (d .entry))))
         (now (terminals .entry)) (now («node_index» .entry)) (now («value_index» .entry)) (now (memo .entry))
-        (current left (columns (now («other_level» .exit)) (now («other_low» .exit)) (now («other_high» .exit)) (now («other_a» .exit)) (now («other_b» .exit)) (now («other_c» .exit)) (now («other_d» .exit)))
+        (current left (columns (now («other_level» .exit)) (now («other_low» .exit)) (now («other_high» .exit))
+        (now («other_a» .exit)) (now («other_b» .exit)) (now («other_c» .exit)) (now («other_d» .exit)))
         (columns (now (level .exit)) (now (low .exit)) (now (high .exit)) (now (a .exit)) (now (b .exit)) (now (c .exit)) (now (d .exit))))
         (now (tally .exit)) ⌝ }
 {
@@ -331,7 +339,8 @@ fn follow(
         (now terminals) (now «node_index») (now «value_index») (now memo) ⌝ }
     ensures { λ r. ⌜ Followed (now (u .entry)) (now (v .entry)) (now (schedule .entry)) n offsets sizes
         (columns (now (level .entry)) (now (low .entry)) (now (high .entry)) (now (a .entry)) (now (b .entry)) (now (c .entry)) (now (d .entry)))
-        (columns (now («other_level» .entry)) (now («other_low» .entry)) (now («other_high» .entry)) (now («other_a» .entry)) (now («other_b» .entry)) (now («other_c» .entry)) (now («other_d» .entry)))
+        (columns (now («other_level» .entry)) (now («other_low» .entry)) (now («other_high» .entry))
+        (now («other_a» .entry)) (now («other_b» .entry)) (now («other_c» .entry)) (now («other_d» .entry)))
         (now (terminals .entry)) (now («node_index» .entry)) (now («value_index» .entry)) (now (memo .entry))
         (columns (now (level .exit)) (now (low .exit)) (now (high .exit)) (now (a .exit)) (now (b .exit)) (now (c .exit)) (now (d .exit))) r ⌝ }
 {
@@ -421,7 +430,8 @@ pub fn run(
         (now terminals) (now «node_index») (now «value_index») (now memo) ⌝ }
     ensures { λ r. ⌜ Left (now (u .entry)) (now (v .entry)) (now (schedule .entry)) n offsets sizes
         (columns (now (level .entry)) (now (low .entry)) (now (high .entry)) (now (a .entry)) (now (b .entry)) (now (c .entry)) (now (d .entry)))
-        (columns (now («other_level» .entry)) (now («other_low» .entry)) (now («other_high» .entry)) (now («other_a» .entry)) (now («other_b» .entry)) (now («other_c» .entry)) (now («other_d» .entry)))
+        (columns (now («other_level» .entry)) (now («other_low» .entry)) (now («other_high» .entry))
+        (now («other_a» .entry)) (now («other_b» .entry)) (now («other_c» .entry)) (now («other_d» .entry)))
         (now (terminals .entry)) (now («node_index» .entry)) (now («value_index» .entry)) (now (memo .entry))
         (columns (now (level .exit)) (now (low .exit)) (now (high .exit)) (now (a .exit)) (now (b .exit)) (now (c .exit)) (now (d .exit))) r ⌝ }
 {

@@ -23,7 +23,8 @@ element-copy-out-t30 c = search needs
 
 take-step-requires : tie.Need-take-step-requires
 take-step-requires c κs =
-    let tested = c .before .before .before .before .before .before .before .before .before .before .before .before .before .before .before .before .before .before .before in
+    let near = c .before .before .before .before .before .before .before .before .before .before .before .before .before .before .before .before .before in
+    let tested = near .before .before in
     let entry = tested .before .before .before .before .before .before .before .before .before .before .before .before in
     rw (eq-eqb _ _ (tested .if1 .taken)) at (entry .pre)
 
@@ -83,12 +84,14 @@ same-length-18 c = onward c .take-step .kept .1 .1 .1 .1 .1 .1 .1 .1 .1 .1 .1 .1
 
 returns : tie.Need-returns
 returns c =
-    let tested = onward c .before .before .before .before .before .before .before .before .before .before .before .before .before .before .before .before .before .before .before .before in
+    let near = onward c .before .before .before .before .before .before .before .before .before .before .before .before .before in
+    let tested = near .before .before .before .before .before .before .before in
     rw (eq-eqb _ _ (tested .if1 .taken)) (onward c .take-step .ensures)
 
 take-step-requires-2 : tie.Need-take-step-requires-2
 take-step-requires-2 c κs =
-    let tested = c .before .before .before .before .before .before .before .before .before .before .before .before .before .before .before .before .before .before .before in
+    let near = c .before .before .before .before .before .before .before .before .before .before .before .before .before .before .before .before .before in
+    let tested = near .before .before in
     let entry = tested .before .before .before .before .before .before .before .before .before .before .before .before in
     rw (ne-eqb _ _ (tested .if1 .left)) at (entry .pre)
 
@@ -148,7 +151,8 @@ same-length-36 c = back c .take-step2 .kept .1 .1 .1 .1 .1 .1 .1 .1 .1 .1 .1 .1 
 
 returns-2 : tie.Need-returns-2
 returns-2 c =
-    let tested = back c .before .before .before .before .before .before .before .before .before .before .before .before .before .before .before .before .before .before .before .before in
+    let near = back c .before .before .before .before .before .before .before .before .before .before .before .before .before .before .before .before .before in
+    let tested = near .before .before .before in
     rw (ne-eqb _ _ (tested .if1 .left)) (back c .take-step2 .ensures)
 
 pub advance-spec : {M : Type 1} → statement M

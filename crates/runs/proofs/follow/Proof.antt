@@ -8,7 +8,7 @@ use borrow.Author.Needs.{needs}
 use lib.ListN.{length}
 use Rattle.diagrams.specs.Columns.{columns}
 use Rattle.runs.proofs.Stores.{tables}
-use Rattle.runs.proofs.Turns.{few-steps, Turning, turning-starts, turning-ends, step-task, turning-stops, turning-on}
+use Rattle.runs.proofs.Loops.{few-steps, Turning, turning-starts, turning-ends, step-task, turning-stops, turning-on}
 use Rattle.runs.proofs.follow.Statement.{statement}
 use Rattle.runs.proofs.follow.Tie as tie
 
@@ -38,7 +38,9 @@ abbrev head : tie.After-choose Inv-loop μ-loop → tie.At-loop Inv-loop μ-loop
 head c = c .before .before .before
 
 abbrev chosen : tie.After-advance Inv-loop μ-loop → tie.After-choose Inv-loop μ-loop
-chosen c = c .before .before .before .before .before .before .before .before .before .before .before .before .before .before .before .before .before .before .before .before .before
+chosen c =
+    let near = c .before .before .before .before .before .before .before .before .before .before .before .before .before .before in
+    near .before .before .before .before .before .before .before
 
 -- ---- before the loop
 
@@ -67,7 +69,8 @@ sub-advance c = omega (arith, test (c .before) .loop-test .taken)
 
 advance-requires : tie.Need-advance-requires Inv-loop μ-loop
 advance-requires c κs =
-    let s = c .before .before .before .before .before .before .before .before .before .before .before .before .before .before .before .before .before .before .before .before in
+    let near = c .before .before .before .before .before .before .before .before .before .before .before .before .before .before .before .before .before in
+    let s = near .before .before .before in
     step-task _ _ _ _ _ _ _ _ _ (head s .loop .inv) (test s .loop-test .taken) _ (s .choose .ensures) (entry (head s) .pre)
 
 array-read-if1 : tie.Need-array-read-if1 Inv-loop μ-loop
@@ -78,7 +81,8 @@ array-read-refusal c = search needs
 
 cast-refusal : tie.Need-cast-refusal Inv-loop μ-loop
 cast-refusal c =
-    let s = chosen (c .before .before .before .before .before .before .before .before .before .before .before .before .before .before .before .before .before .before .before .before .before .before .before .before .before .before .before .before) in
+    let near = c .before .before .before .before .before .before .before .before .before .before .before .before .before .before .before .before .before in
+    let s = chosen (near .before .before .before .before .before .before .before .before .before .before .before) in
     omega (arith, test s .loop-test .taken, few-steps _ _ _ _ _ _ _ _ _ (entry (head s) .pre))
 
 refusal-requires : tie.Need-refusal-requires Inv-loop μ-loop
@@ -87,7 +91,9 @@ refusal-requires c κs = search needs
 -- ---- a step that is refused
 
 abbrev stopped : tie.After-refusal Inv-loop μ-loop → tie.After-advance Inv-loop μ-loop
-stopped c = c .before .before .before .before .before .before .before .before .before .before .before .before .before .before .before .before .before .before .before .before .before .before .before .before .before .before .before .before .before
+stopped c =
+    let near = c .before .before .before .before .before .before .before .before .before .before .before .before .before .before in
+    near .before .before .before .before .before .before .before .before .before .before .before .before .before .before .before
 
 same-length : tie.Need-same-length Inv-loop μ-loop
 same-length c = stopped c .advance .kept .1 .1 .1 .1 .0 ∙ head (chosen (stopped c)) .loop .inv .first-kept .of-level
@@ -132,16 +138,24 @@ same-length-14 : tie.Need-same-length-14 Inv-loop μ-loop
 same-length-14 c = stopped c .advance .kept .1 .1 .1 .1 .1 .1 .1 .1 .1 .1 .1 .1 .1 .1 .1 .1 .1 .0 ∙ head (chosen (stopped c)) .loop .inv .second-kept .of-d
 
 same-length-15 : tie.Need-same-length-15 Inv-loop μ-loop
-same-length-15 c = stopped c .advance .kept .1 .1 .1 .1 .1 .1 .1 .1 .1 .1 .1 .1 .1 .1 .1 .1 .1 .1 .0 ∙ head (chosen (stopped c)) .loop .inv .tables-kept .of-terminals
+same-length-15 c =
+    stopped c .advance .kept .1 .1 .1 .1 .1 .1 .1 .1 .1 .1 .1 .1 .1 .1 .1 .1 .1 .1 .0
+    ∙ head (chosen (stopped c)) .loop .inv .tables-kept .of-terminals
 
 same-length-16 : tie.Need-same-length-16 Inv-loop μ-loop
-same-length-16 c = stopped c .advance .kept .1 .1 .1 .1 .1 .1 .1 .1 .1 .1 .1 .1 .1 .1 .1 .1 .1 .1 .1 .0 ∙ head (chosen (stopped c)) .loop .inv .tables-kept .of-nodes
+same-length-16 c =
+    stopped c .advance .kept .1 .1 .1 .1 .1 .1 .1 .1 .1 .1 .1 .1 .1 .1 .1 .1 .1 .1 .1 .0
+    ∙ head (chosen (stopped c)) .loop .inv .tables-kept .of-nodes
 
 same-length-17 : tie.Need-same-length-17 Inv-loop μ-loop
-same-length-17 c = stopped c .advance .kept .1 .1 .1 .1 .1 .1 .1 .1 .1 .1 .1 .1 .1 .1 .1 .1 .1 .1 .1 .1 .0 ∙ head (chosen (stopped c)) .loop .inv .tables-kept .of-values
+same-length-17 c =
+    stopped c .advance .kept .1 .1 .1 .1 .1 .1 .1 .1 .1 .1 .1 .1 .1 .1 .1 .1 .1 .1 .1 .1 .0
+    ∙ head (chosen (stopped c)) .loop .inv .tables-kept .of-values
 
 same-length-18 : tie.Need-same-length-18 Inv-loop μ-loop
-same-length-18 c = stopped c .advance .kept .1 .1 .1 .1 .1 .1 .1 .1 .1 .1 .1 .1 .1 .1 .1 .1 .1 .1 .1 .1 .1 .0 ∙ head (chosen (stopped c)) .loop .inv .tables-kept .of-memo
+same-length-18 c =
+    stopped c .advance .kept .1 .1 .1 .1 .1 .1 .1 .1 .1 .1 .1 .1 .1 .1 .1 .1 .1 .1 .1 .1 .1 .0
+    ∙ head (chosen (stopped c)) .loop .inv .tables-kept .of-memo
 
 returns : tie.Need-returns Inv-loop μ-loop
 returns c =
@@ -156,7 +170,9 @@ halves-requires : tie.Need-halves-requires Inv-loop μ-loop
 halves-requires c κs = search needs
 
 abbrev went : tie.After-halves Inv-loop μ-loop → tie.After-advance Inv-loop μ-loop
-went c = c .before .before .before .before .before .before .before .before .before .before .before .before .before .before .before .before .before .before .before .before .before .before .before .before .before .before .before .before .before .before
+went c =
+    let near = c .before .before .before .before .before .before .before .before .before .before .before .before .before .before in
+    near .before .before .before .before .before .before .before .before .before .before .before .before .before .before .before .before
 
 loop-again : tie.Need-loop-again Inv-loop μ-loop
 loop-again c =

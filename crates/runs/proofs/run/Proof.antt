@@ -2,7 +2,7 @@
 -- Assumes nothing.
 use mathlib.Core.Path.{_∙_}
 use borrow.Author.Needs.{needs}
-use Rattle.runs.proofs.Turns.{run-few-nodes, run-few-values, run-room, run-starts, run-followed}
+use Rattle.runs.proofs.Loops.{run-few-nodes, run-few-values, run-room, run-starts, run-followed}
 use Rattle.runs.proofs.run.Statement.{statement}
 use Rattle.runs.proofs.run.Tie as tie
 
@@ -15,10 +15,15 @@ abbrev entry : tie.Else2 → tie.Start
 entry c = c .before .before .before .before .before .before .before .before .before .before .before .before .before .before
 
 abbrev begun : tie.After-follow → tie.After-begin
-begun c = c .before .before .before .before .before .before .before .before .before .before .before .before .before .before .before .before .before .before .before .before .before .before .before .before .before .before .before .before .before .before .before .before .before .before .before .before .before .before .before
+begun c =
+    let near = c .before .before .before .before .before .before .before .before .before .before .before .before .before in
+    let nearer = near .before .before .before .before .before .before .before .before .before .before .before .before .before in
+    nearer .before .before .before .before .before .before .before .before .before .before .before .before .before
 
 abbrev followed : tie.After-slice-known24 → tie.After-follow
-followed c = c .before .before .before .before .before .before .before .before .before .before .before .before .before .before .before .before .before .before .before .before .before .before .before .before .before .before .before
+followed c =
+    let near = c .before .before .before .before .before .before .before .before .before .before .before .before .before .before in
+    near .before .before .before .before .before .before .before .before .before .before .before .before .before
 
 -- ---- the needs
 
@@ -44,7 +49,9 @@ begin-requires c κs =
 
 follow-requires : tie.Need-follow-requires
 follow-requires c κs =
-    let b = c .before .before .before .before .before .before .before .before .before .before .before .before .before .before .before .before .before .before .before .before .before .before .before .before .before .before .before .before .before .before .before .before .before .before .before .before .before .before in
+    let near = c .before .before .before .before .before .before .before .before .before .before .before .before .before .before .before .before .before in
+    let nearer = near .before .before .before .before .before .before .before .before .before .before .before .before .before .before .before .before .before in
+    let b = nearer .before .before .before .before in
     let t = tested b in
     let k = b .begin .kept in
     run-starts _ (entry t .pre) (t .before .if1 .left) (t .if2 .left)
@@ -96,19 +103,29 @@ same-length-9 : tie.Need-same-length-9
 same-length-9 c = followed c .follow .kept .1 .1 .1 .1 .1 .1 .1 .1 .1 .1 .1 .1 .1 .1 .0 ∙ begun (followed c) .begin .kept .1 .1 .1 .1 .1 .1 .1 .1 .1 .1 .0
 
 same-length-10 : tie.Need-same-length-10
-same-length-10 c = followed c .follow .kept .1 .1 .1 .1 .1 .1 .1 .1 .1 .1 .1 .1 .1 .1 .1 .0 ∙ begun (followed c) .begin .kept .1 .1 .1 .1 .1 .1 .1 .1 .1 .1 .1 .0
+same-length-10 c =
+    followed c .follow .kept .1 .1 .1 .1 .1 .1 .1 .1 .1 .1 .1 .1 .1 .1 .1 .0
+    ∙ begun (followed c) .begin .kept .1 .1 .1 .1 .1 .1 .1 .1 .1 .1 .1 .0
 
 same-length-11 : tie.Need-same-length-11
-same-length-11 c = followed c .follow .kept .1 .1 .1 .1 .1 .1 .1 .1 .1 .1 .1 .1 .1 .1 .1 .1 .0 ∙ begun (followed c) .begin .kept .1 .1 .1 .1 .1 .1 .1 .1 .1 .1 .1 .1 .0
+same-length-11 c =
+    followed c .follow .kept .1 .1 .1 .1 .1 .1 .1 .1 .1 .1 .1 .1 .1 .1 .1 .1 .0
+    ∙ begun (followed c) .begin .kept .1 .1 .1 .1 .1 .1 .1 .1 .1 .1 .1 .1 .0
 
 same-length-12 : tie.Need-same-length-12
-same-length-12 c = followed c .follow .kept .1 .1 .1 .1 .1 .1 .1 .1 .1 .1 .1 .1 .1 .1 .1 .1 .1 .0 ∙ begun (followed c) .begin .kept .1 .1 .1 .1 .1 .1 .1 .1 .1 .1 .1 .1 .1 .0
+same-length-12 c =
+    followed c .follow .kept .1 .1 .1 .1 .1 .1 .1 .1 .1 .1 .1 .1 .1 .1 .1 .1 .1 .0
+    ∙ begun (followed c) .begin .kept .1 .1 .1 .1 .1 .1 .1 .1 .1 .1 .1 .1 .1 .0
 
 same-length-13 : tie.Need-same-length-13
-same-length-13 c = followed c .follow .kept .1 .1 .1 .1 .1 .1 .1 .1 .1 .1 .1 .1 .1 .1 .1 .1 .1 .1 .0 ∙ begun (followed c) .begin .kept .1 .1 .1 .1 .1 .1 .1 .1 .1 .1 .1 .1 .1 .1 .0
+same-length-13 c =
+    followed c .follow .kept .1 .1 .1 .1 .1 .1 .1 .1 .1 .1 .1 .1 .1 .1 .1 .1 .1 .1 .0
+    ∙ begun (followed c) .begin .kept .1 .1 .1 .1 .1 .1 .1 .1 .1 .1 .1 .1 .1 .1 .0
 
 same-length-14 : tie.Need-same-length-14
-same-length-14 c = followed c .follow .kept .1 .1 .1 .1 .1 .1 .1 .1 .1 .1 .1 .1 .1 .1 .1 .1 .1 .1 .1 .0 ∙ begun (followed c) .begin .kept .1 .1 .1 .1 .1 .1 .1 .1 .1 .1 .1 .1 .1 .1 .1 .0
+same-length-14 c =
+    followed c .follow .kept .1 .1 .1 .1 .1 .1 .1 .1 .1 .1 .1 .1 .1 .1 .1 .1 .1 .1 .1 .0
+    ∙ begun (followed c) .begin .kept .1 .1 .1 .1 .1 .1 .1 .1 .1 .1 .1 .1 .1 .1 .1 .0
 
 same-length-15 : tie.Need-same-length-15
 same-length-15 c = followed c .follow .kept .1 .1 .1 .1 .1 .1 .1 .1 .1 .1 .1 .1 .1 .1 .1 .1 .1 .1 .1 .1 .0
