@@ -251,7 +251,7 @@ demand-3 u v s s′ w w′ first second first′ second′ unrefused unrefused�
     let n = c .qubits in
     let M = miter n (c .gates) (d .gates) .entries in
     let pass′ : Passes u v s′ w′ first′ second′ c d = subst₂ (Passes u v s′ w′ first′ second′)
-        (read-value (sym (lists′ .first-read) ∙ lists .first-read)) (read-value (sym (lists′ .second-read) ∙ lists .second-read)) (other .pass) in
+    (read-value (sym (lists′ .first-read) ∙ lists .first-read)) (read-value (sym (lists′ .second-read) ∙ lists .second-read)) (other .pass) in
     let is = pass-judged u v s w first second (one .pass) in
     let is′ = pass-judged u v s′ w′ first′ second′ pass′ in
     record {
