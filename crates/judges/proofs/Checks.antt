@@ -25,7 +25,8 @@ module _ (u v schedule : List ℕ) (w : ℕ) (first second : Lengths) where
   pair-checking : {c d : Circuit} → Both-read u v schedule w first second c d → Table (check-pair schedule c d)
   pair-checking {c} {d} both = by-counts (eqb (c .qubits) (d .qubits)) (fits (length (c .gates)) (length (d .gates)) schedule) refl refl
     where
-      by-counts : (x y : Bool) → eqb (c .qubits) (d .qubits) ≡ x → fits (length (c .gates)) (length (d .gates)) schedule ≡ y → Table (check-pair schedule c d)
+      by-counts : (x y : Bool) → eqb (c .qubits) (d .qubits) ≡ x → fits (length (c .gates)) (length (d .gates)) schedule ≡ y
+          → Table (check-pair schedule c d)
       by-counts true true p q = rw (p, q) (all-hold both (eqb-true _ _ p) q)
       by-counts true false p q = rw (p, q) (unfitting both (eqb-true _ _ p) q)
       by-counts false y p q = rw p (counts-differ both (eqb-false _ _ p))

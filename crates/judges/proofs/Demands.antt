@@ -1,93 +1,80 @@
--- The three demands on the call that judges two gate lists, about `answer`, which the call's contract says it returns and leaves
--- in the stores, for all lists of bytes, schedules, widths, store sizes and earlier contents.
+-- The three demands hold of the call's answer: `demand-1`, `demand-2`, `demand-3`.
 -- Assumes nothing.
-use mathlib.Core.Path.{_≡_, refl, sym, _∙_, ap, subst, subst₂}
+use mathlib.Core.Path.{_≡_, sym, _∙_, ap, subst, subst₂}
 use mathlib.Core.Bool.{true}
 use mathlib.Core.Logic.{_↔_, _⊎_, inl, inr}
 use mathlib.Core.List.{List}
 use mathlib.Core.Option.{Option, none, some}
-use Prim.Native.Nat.{ℕ, zero, suc, _+_, _≤_}
+use Prim.Native.Nat.{ℕ, zero, suc, _+_}
 use native.Mathlib.Omega.{arith}
 use lib.ListN.{length}
 use Rattle.algebra.specs.declared.Entry.{Entry}
-use Rattle.algebra.specs.Entry.{𝟘}
+use Rattle.algebra.specs.Entry.{_⊗_, √2^}
 use Rattle.algebra.specs.Matrix.{Matrix, Bits}
-use Rattle.gates.specs.Gate.{Gate, All-fit}
+use Rattle.gates.specs.Gate.{Gate}
 use Rattle.circuits.specs.Refusals.{base-limits}
-use Rattle.circuits.specs.Reading.{Reading, read, Circuit, decoded}
+use Rattle.circuits.specs.Reading.{Circuit}
 use Rattle.circuits.specs.Within.{Within}
 use Rattle.circuits.proofs.Readings.{read-value}
 use Rattle.circuits.proofs.Within.{decoded-within}
 use Rattle.schedules.specs.Schedule.{fits}
-use Rattle.diagrams.specs.Diagram.{Diagram, ReducedOf, levels, entries, diagram}
-use Rattle.diagrams.specs.Columns.{Columns, held, cleared}
+use Rattle.diagrams.specs.Diagram.{levels, diagram}
+use Rattle.diagrams.specs.Columns.{Columns}
 use Rattle.diagrams.proofs.Diagrams.{diagram-reduced, diagram-unique}
 use Rattle.miters.specs.declared.Refusal.{Refusal}
 use Rattle.miters.specs.declared.Report.{Report}
-use Rattle.miters.specs.declared.Verdict.the-variants.{Equal as equal-with, Different, Refused}
-use Rattle.miters.specs.Miter.{Step, run, start, steps, miter, Equal}
-use Rattle.miters.specs.Report.{lowest, forbids, difference, verdict-by, verdict, finished, refused}
-use Rattle.miters.specs.Run.{Lent, Ended, done, stopped, ended, Outcome, outcome, judged}
+use Rattle.miters.specs.declared.Verdict.the-variants.{Equal as equal-with, Refused}
+use Rattle.miters.specs.Miter.{steps, miter, Equal}
+use Rattle.miters.specs.Report.{lowest, forbids, verdict-by, verdict, finished, refused}
+use Rattle.miters.specs.Run.{Lent, Ended, done, stopped, Outcome, outcome, judged}
+use Rattle.miters.proofs.Schedules.{miter-power}
+use Rattle.miters.proofs.Scalars.{turns-unique}
 use Rattle.miters.proofs.Runs.{Ends, ended-ends, ends-only, Answered, judged-miter, Agree, two-runs}
 use Rattle.miters.proofs.Verdicts.{Says, verdict-says, verdict-equal-iff}
-use Rattle.judges.specs.Answer.{lengths, Checks, refuses, passes, checks, lent, answer-by, answer}
+use Rattle.judges.specs.Answer.{lengths, Checks, refuses, passes, lent, answer-by, answer}
 use Rattle.judges.specs.Calls.{leaving}
-use Rattle.judges.specs.Table.{Both-read, Checking, all-hold}
+use Rattle.judges.specs.Table.{all-hold}
+use Rattle.judges.specs.Demands.{answered, all-zero, Line, Before-run, In-run, Demand-1, Read-as, Demand-2, Demand-3}
 use Rattle.judges.proofs.Checks.{checks-checking, checking-checks}
 
--- ---- demand 1: each refusal exactly under its conditions, and what the stores then hold
+-- ---- demand 1
 
 module _ (u v schedule : List ℕ) (w : ℕ) (first second : Columns) where
-  -- the answer on this input
-  abbrev pub answered : Outcome
-  answered = answer u v schedule w first second
+  abbrev o : Outcome
+  o = answered u v schedule w first second
 
-  abbrev all-zero : Columns
-  all-zero = cleared (length (first .level)) (length (first .a))
+  abbrev all-0 : Columns
+  all-0 = all-zero u v schedule w first second
 
-  -- the checks before the run come to this line of the table
-  abbrev pub Line : Checks → Type 0
-  Line = Checking u v schedule w (lengths first) (lengths second)
+  abbrev Row : Checks → Type 0
+  Row = Line u v schedule w first second
 
-  -- 1 to 12
-  abbrev pub Before-run : Refusal → Type 0
-  Before-run why = Line (refuses why)
+  abbrev Early : Refusal → Type 0
+  Early = Before-run u v schedule w first second
 
-  -- 13 and 14: the checks pass, and the identity has no room, or those steps pass that are before the one that stops the run
-  pub record In-run (why : Refusal) : Type 0 where
-    pub c : Circuit
-    pub d : Circuit
-    pub pass : Line (passes c d)
-    pub stops : Ends (lent w first) (c .qubits) (steps schedule (c .gates) (d .gates)) (stopped why)
+  abbrev Late : Refusal → Type 0
+  Late = In-run u v schedule w first second
 
-  pub record Demand-1 : Type 0 where
-    pub exactly : (why : Refusal) → (answered .report .verdict ≡ Refused why) ↔ (Before-run why ⊎ In-run why)
-    -- "Refusals 1 to 12 change no store; 13 and 14 leave both all 0."
-    pub unchanged : (why : Refusal) → Before-run why → answered ≡ leaving (refused why) first second
-    pub all-0 : (why : Refusal) → In-run why → answered ≡ leaving (refused why) all-zero all-zero
-
-  -- ---- its proof
-
-  line-answer : {x : Checks} → Line x → answered ≡ answer-by schedule w first second x
+  line-answer : {x : Checks} → Row x → o ≡ answer-by schedule w first second x
   unfolding answer
   line-answer line = rw (checking-checks u v schedule w (lengths first) (lengths second) line)
 
-  line-unchanged : (why : Refusal) → Before-run why → answered ≡ leaving (refused why) first second
+  line-unchanged : (why : Refusal) → Early why → o ≡ leaving (refused why) first second
   line-unchanged why line = line-answer line
 
-  passed-answer : {c d : Circuit} → Line (passes c d) → {e : Ended}
-      → Ends (lent w first) (c .qubits) (steps schedule (c .gates) (d .gates)) e → answered ≡ outcome (lent w first) (c .qubits) e
+  passed-answer : {c d : Circuit} → Row (passes c d) → {e : Ended}
+      → Ends (lent w first) (c .qubits) (steps schedule (c .gates) (d .gates)) e → o ≡ outcome (lent w first) (c .qubits) e
   unfolding judged
   passed-answer {c} {d} pass ends = line-answer pass ∙ ap (outcome (lent w first) (c .qubits)) (ends-only (lent w first) (c .qubits) _ ends)
 
-  run-all-0 : (why : Refusal) → In-run why → answered ≡ leaving (refused why) all-zero all-zero
+  run-all-0 : (why : Refusal) → Late why → o ≡ leaving (refused why) all-0 all-0
   run-all-0 why in-run = passed-answer (in-run .pass) (in-run .stops)
 
-  verdict-of : {o : Outcome} (why : Refusal) {left right : Columns} → o ≡ leaving (refused why) left right → o .report .verdict ≡ Refused why
+  verdict-of : {p : Outcome} (why : Refusal) {left right : Columns} → p ≡ leaving (refused why) left right → p .report .verdict ≡ Refused why
   unfolding refused
   verdict-of why e = ap (λ (o : Outcome). o .report .verdict) e
 
-  is-due : (why : Refusal) → Before-run why ⊎ In-run why → answered .report .verdict ≡ Refused why
+  is-due : (why : Refusal) → Early why ⊎ Late why → o .report .verdict ≡ Refused why
   is-due why (inl line) = verdict-of why (line-unchanged why line)
   is-due why (inr in-run) = verdict-of why (run-all-0 why in-run)
 
@@ -104,47 +91,28 @@ module _ (u v schedule : List ℕ) (w : ℕ) (first second : Columns) where
   unfolding refused
   one-refusal why other e f = let both : Refused other ≡ Refused why = sym (ap (λ (x : Report). x .verdict) e) ∙ f in cc
 
-  ended-due : {c d : Circuit} → Line (passes c d) → (e : Ended) → Ends (lent w first) (c .qubits) (steps schedule (c .gates) (d .gates)) e
-      → (why : Refusal) → answered .report .verdict ≡ Refused why → In-run why
+  ended-due : {c d : Circuit} → Row (passes c d) → (e : Ended) → Ends (lent w first) (c .qubits) (steps schedule (c .gates) (d .gates)) e
+      → (why : Refusal) → o .report .verdict ≡ Refused why → Late why
   unfolding finished
   ended-due {c} {d} pass (done k M) ends why is =
       absurd (unrefused (c .qubits) (M .entries) why (sym (ap (λ (o : Outcome). o .report .verdict) (passed-answer pass ends)) ∙ is))
   ended-due {c} {d} pass (stopped other) ends why is =
-      subst In-run (one-refusal why other (ap (λ (o : Outcome). o .report) (passed-answer pass ends)) is)
+      subst Late (one-refusal why other (ap (λ (o : Outcome). o .report) (passed-answer pass ends)) is)
       (record { c = c; d = d; pass = pass; stops = ends })
 
-  due : (x : Checks) → Line x → (why : Refusal) → answered .report .verdict ≡ Refused why → Before-run why ⊎ In-run why
+  due : (x : Checks) → Row x → (why : Refusal) → o .report .verdict ≡ Refused why → Early why ⊎ Late why
   due (refuses other) line why is =
-      inl (subst Before-run (one-refusal why other (ap (λ (o : Outcome). o .report) (line-unchanged other line)) is) line)
+      inl (subst Early (one-refusal why other (ap (λ (o : Outcome). o .report) (line-unchanged other line)) is) line)
   due (passes c d) line why is = inr (ended-due line _ (ended-ends (lent w first) (c .qubits) (steps schedule (c .gates) (d .gates))) why is)
 
-  pub demand-1 : Demand-1
+  pub demand-1 : Demand-1 u v schedule w first second
   demand-1 = record {
     exactly = λ why. (due _ (checks-checking u v schedule w (lengths first) (lengths second)) why, is-due why);
     unchanged = line-unchanged;
     all-0 = run-all-0;
   }
 
--- ---- demand 2: unless refused, equal exactly if one number turns V's matrix into U's, and that number is the factor; a no shows
--- the lowest place that forbids equality, its exact entry and the corner
-
--- the lists read, in an answer that is no refusal
-pub record Read-as (u v : List ℕ) (c d : Circuit) : Type 0 where
-  pub first-end : ℕ
-  pub first-read : decoded base-limits u ≡ read c first-end
-  pub second-end : ℕ
-  pub second-read : decoded base-limits v ≡ read d second-end
-  pub one-count : c .qubits ≡ d .qubits
-
-pub record Demand-2 (u v : List ℕ) (o : Outcome) : Type 0 where
-  pub c : Circuit
-  pub d : Circuit
-  pub lists : Read-as u v c d
-  pub equal-iff : ((z : Entry) × (o .report .verdict ≡ equal-with z)) ↔ Equal (c .qubits) (c .gates) (d .gates)
-  pub says : Says (c .qubits) (c .gates) (d .gates) (o .report .verdict)
-  pub exponent-is : o .report .exponent ≡ miter (c .qubits) (c .gates) (d .gates) .power
-
--- ---- its proof
+-- ---- demand 2
 
 module _ (u v schedule : List ℕ) (w : ℕ) (first second : Columns) where
   abbrev Passes : Circuit → Circuit → Type 0
@@ -210,23 +178,11 @@ demand-2 u v schedule w first second unrefused =
       equal-iff = subst (λ (o : Outcome). ((z : Entry) × (o .report .verdict ≡ equal-with z)) ↔ Equal n us vs) (sym is) (verdict-equal-iff n us vs fit);
       says = subst (λ (o : Outcome). Says n us vs (o .report .verdict)) (sym is) (verdict-says n us vs fit);
       exponent-is = ap (λ (o : Outcome). o .report .exponent) is;
+      one-factor = λ z e turns.
+          ap (λ (k : ℕ). z ⊗ √2^ k) (ap (λ (o : Outcome). o .report .exponent) is ∙ miter-power n us vs) ∙ turns-unique n us vs fit z e turns;
     }
 
--- ---- demand 3: two whole runs on the same lists, along any schedules, at any widths, in stores of any sizes and contents: if
--- neither is refused, one report and one used part, that of the one reduced diagram of the miter; and all else is 0
-
-pub record Demand-3 (u v : List ℕ) (lent lent′ : Lent) (o p : Outcome) : Type 0 where
-  pub c : Circuit
-  pub d : Circuit
-  pub lists : Read-as u v c d
-  pub D : Diagram Entry
-  pub reduced : ReducedOf 𝟘 (levels (c .qubits)) (entries (miter (c .qubits) (c .gates) (d .gates) .entries)) D
-  pub only : (E : Diagram Entry) → ReducedOf 𝟘 (levels (c .qubits)) (entries (miter (c .qubits) (c .gates) (d .gates) .entries)) E → E ≡ D
-  pub agree : Agree lent lent′ D o p
-  pub first-is : o .first ≡ held (lent .nodes) (lent .values) (D .store)
-  pub first-is′ : p .first ≡ held (lent′ .nodes) (lent′ .values) (D .store)
-
--- ---- its proof
+-- ---- demand 3
 
 runs-agree : (n : ℕ) (us vs : List Gate) → Within base-limits n us → Within base-limits n vs
     → (lent lent′ : Lent) (s s′ : List ℕ) → fits (length us) (length vs) s ≡ true → fits (length us) (length vs) s′ ≡ true
@@ -251,7 +207,7 @@ demand-3 u v s s′ w w′ first second first′ second′ unrefused unrefused�
     let n = c .qubits in
     let M = miter n (c .gates) (d .gates) .entries in
     let pass′ : Passes u v s′ w′ first′ second′ c d = subst₂ (Passes u v s′ w′ first′ second′)
-        (read-value (sym (lists′ .first-read) ∙ lists .first-read)) (read-value (sym (lists′ .second-read) ∙ lists .second-read)) (other .pass) in
+    (read-value (sym (lists′ .first-read) ∙ lists .first-read)) (read-value (sym (lists′ .second-read) ∙ lists .second-read)) (other .pass) in
     let is = pass-judged u v s w first second (one .pass) in
     let is′ = pass-judged u v s′ w′ first′ second′ pass′ in
     record {

@@ -59,4 +59,15 @@ module _ (u v schedule : List ℕ) where
       pub pair-found : qubits ≡ other-qubits → fits gates other-gates schedule ≡ true → Found (Pair qubits (record { first = first; second = second }))
       unfolding check-lists
       pair-found same fit =
-          rw (one .was-read, two .was-read, one .qubits-are, two .qubits-are, eq-eqb _ _ same, one .gates-are, two .gates-are, fit, one .first-is, two .first-is)
+          rw (
+            one .was-read,
+            two .was-read,
+            one .qubits-are,
+            two .qubits-are,
+            eq-eqb _ _ same,
+            one .gates-are,
+            two .gates-are,
+            fit,
+            one .first-is,
+            two .first-is,
+          )

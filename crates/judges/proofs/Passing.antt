@@ -72,7 +72,7 @@ module _ (u v schedule : List ℕ) (sizes : Sizes) (first second : Columns) (off
   checked-running n (refuses why) come e = let z : _≡_ {A = ℕ} 0 1 = cc in absurd (omega arith)
   checked-running n (passes c d) come e =
       let table = subst (Checking u v schedule (sizes .width) (lengths first) (lengths second)) come
-          (checks-checking u v schedule (sizes .width) (lengths first) (lengths second)) in
+      (checks-checking u v schedule (sizes .width) (lengths first) (lengths second)) in
       let qubits : c .qubits ≡ n = cc in
       let gates : record { first = c .first; second = d .first } ≡ offsets = cc in
       subst₂ (λ (k : ℕ) (o : Offsets). Running u v schedule k o sizes first second terminals node-index value-index memo) qubits gates
@@ -82,9 +82,11 @@ module _ (u v schedule : List ℕ) (sizes : Sizes) (first second : Columns) (off
       → Running u v schedule n offsets sizes first second terminals node-index value-index memo
   passed-running n e = checked-running n (checks u v schedule (sizes .width) (lengths first) (lengths second)) refl e
 
-  pub passed-task : (n : ℕ) → Passed u v schedule (sizes .width) first second n offsets
-      → Task u v schedule n offsets sizes first second terminals node-index value-index memo
-  passed-task n e = passed-running n e .task
+pub passed-task : {u v schedule : List ℕ} {n : ℕ} {offsets : Offsets} {sizes : Sizes} {first second : Columns}
+    {terminals : List ℤ} {node-index value-index memo : List ℕ} → Passed u v schedule (sizes .width) first second n offsets
+    → Scratch (length (first .level)) (length (first .a)) sizes terminals node-index value-index memo
+    → Task u v schedule n offsets sizes first second terminals node-index value-index memo
+passed-task e scratch = passed-running _ _ _ _ _ _ _ _ _ _ _ scratch _ e .task
 
 -- ---- before the run
 
@@ -95,7 +97,8 @@ module _ (u v schedule : List ℕ) (w : ℕ) (first : Columns) (second : Lengths
       let ruled = both-hold (lengths first) second (both .lent-well .rules) .of-first in
       record { nodes = ruled .few-nodes; values = ruled .few-values }
 
-  at-most-by : {n : ℕ} {offsets : Offsets} (x : Checks) → Checking u v schedule w (lengths first) second x → checked x ≡ Pair n offsets → AtMost 65536 first
+  at-most-by : {n : ℕ} {offsets : Offsets} (x : Checks) → Checking u v schedule w (lengths first) second x → checked x ≡ Pair n offsets
+      → AtMost 65536 first
   at-most-by (refuses why) line e = let z : _≡_ {A = ℕ} 0 1 = cc in absurd (omega arith)
   at-most-by (passes c d) line e = pass-at-most line
 

@@ -98,7 +98,8 @@ module _ {N L n : ℕ} {M : Matrix} {used : Used} {C : Columns} (source : Source
 -- ---- its report, by how it ended
 
 module _ (n : ℕ) (C : Columns) {r : End} where
-  pub done-searchable : {steps exponent : ℕ} {used : Used} → Readable n C r → r ≡ Done steps exponent used → Searchable n (used .nodes) (used .values) C
+  pub done-searchable : {steps exponent : ℕ} {used : Used} → Readable n C r → r ≡ Done steps exponent used
+      → Searchable n (used .nodes) (used .values) C
   done-searchable readable e = subst (Readable n C) e readable
 
   pub done-report : {steps exponent : ℕ} {used : Used} {v : Verdict} → r ≡ Done steps exponent used
@@ -117,7 +118,8 @@ module _ {lent : Lent} {n : ℕ} {C : Columns} where
   ran-slots refused used is long = rw is (no-slots long)
 
   -- and hold a diagram that is searched
-  pub ran-readable : {e : Ended} {r : End} → Ran lent n C e r → (used : Used) → used ≡ kept r → 1 ≤ n → n ≤ 16 → lent .nodes ≤ 65536 → lent .values ≤ 65536
+  pub ran-readable : {e : Ended} {r : End} → Ran lent n C e r → (used : Used) → used ≡ kept r → 1 ≤ n → n ≤ 16
+      → lent .nodes ≤ 65536 → lent .values ≤ 65536
       → (C′ : Columns) → Long (lent .nodes) (lent .values) C′ → C′ ≡ wiped (used .nodes) (used .values) C → Readable n C′ r
   ran-readable (ran {M = M} {used = it} source) used is some few few-nodes few-values C′ long wiped-is =
       let wiped-it = rw is at wiped-is in
@@ -181,8 +183,8 @@ pub record Run-over (u v schedule : List ℕ) (n : ℕ) (offsets : Offsets) (siz
   pub first-same : Same-lengths first C
   pub second-same : Same-lengths second D
 
-module _ (u v schedule : List ℕ) (n : ℕ) (offsets : Offsets) (sizes : Sizes) (first second : Columns)
-    (terminals : List ℤ) (node-index value-index memo : List ℕ) (C D : Columns) (r : End)
+module _ {u v schedule : List ℕ} {n : ℕ} {offsets : Offsets} {sizes : Sizes} {first second : Columns}
+    {terminals : List ℤ} {node-index value-index memo : List ℕ} {C D : Columns} {r : End}
     (over : Run-over u v schedule n offsets sizes first second terminals node-index value-index memo C D r) where
   abbrev running : Running u v schedule n offsets sizes first second terminals node-index value-index memo
   running = passed-running u v schedule sizes first second offsets terminals node-index value-index memo (over .scratch) n (over .passed)
@@ -211,8 +213,7 @@ module _ (u v schedule : List ℕ) (n : ℕ) (offsets : Offsets) (sizes : Sizes)
 
     pub few-kept : (used .nodes ≤ 65536) × (used .values ≤ 65536)
     few-kept =
-        let (nodes, values) = first-slots in
-        (
+        let (nodes, values) = first-slots in (
           omega (arith, nodes .in-level, first-still .of-level, task .scratch .few-nodes),
           omega (arith, values .in-a, first-still .of-a, task .scratch .few-values),
         )

@@ -211,6 +211,9 @@ fn report(
 
 // ---- the run
 
+// The slots kept of the second store.
+const NOTHING: usize = 0;
+
 // The run of a pair that passed the checks, in scratch that has room for it; the second store and what the first does not keep become 0.
 fn judge_in(
     u: &[u8],
@@ -244,10 +247,12 @@ fn judge_in(
     requires { ⌜ Scratch (length (now level)) (length (now a)) sizes (now terminals) (now «node_index») (now «value_index») (now memo) ⌝ }
     ensures { λ r. ⌜ leaving r
         (columns (now (level .exit)) (now (low .exit)) (now (high .exit)) (now (a .exit)) (now (b .exit)) (now (c .exit)) (now (d .exit)))
-        (columns (now («other_level» .exit)) (now («other_low» .exit)) (now («other_high» .exit)) (now («other_a» .exit)) (now («other_b» .exit)) (now («other_c» .exit)) (now («other_d» .exit)))
+        (columns (now («other_level» .exit)) (now («other_low» .exit)) (now («other_high» .exit))
+        (now («other_a» .exit)) (now («other_b» .exit)) (now («other_c» .exit)) (now («other_d» .exit)))
         ≡ answer (now (u .entry)) (now (v .entry)) (now (schedule .entry)) (sizes .width)
         (columns (now (level .entry)) (now (low .entry)) (now (high .entry)) (now (a .entry)) (now (b .entry)) (now (c .entry)) (now (d .entry)))
-        (columns (now («other_level» .entry)) (now («other_low» .entry)) (now («other_high» .entry)) (now («other_a» .entry)) (now («other_b» .entry)) (now («other_c» .entry)) (now («other_d» .entry))) ⌝ }
+        (columns (now («other_level» .entry)) (now («other_low» .entry)) (now («other_high» .entry))
+        (now («other_a» .entry)) (now («other_b» .entry)) (now («other_c» .entry)) (now («other_d» .entry))) ⌝ }
 {
     let ended = runs::run(
         u,
@@ -283,8 +288,8 @@ fn judge_in(
         other_b,
         other_c,
         other_d,
-        0,
-        0,
+        NOTHING,
+        NOTHING,
     );
     let used = kept(ended);
     diagrams::wipe(
@@ -330,10 +335,12 @@ fn judge_small(
     requires { ⌜ AtMost 4096 (columns (now level) (now low) (now high) (now a) (now b) (now c) (now d)) ⌝ }
     ensures { λ r. ⌜ leaving r
         (columns (now (level .exit)) (now (low .exit)) (now (high .exit)) (now (a .exit)) (now (b .exit)) (now (c .exit)) (now (d .exit)))
-        (columns (now («other_level» .exit)) (now («other_low» .exit)) (now («other_high» .exit)) (now («other_a» .exit)) (now («other_b» .exit)) (now («other_c» .exit)) (now («other_d» .exit)))
+        (columns (now («other_level» .exit)) (now («other_low» .exit)) (now («other_high» .exit))
+        (now («other_a» .exit)) (now («other_b» .exit)) (now («other_c» .exit)) (now («other_d» .exit)))
         ≡ answer (now (u .entry)) (now (v .entry)) (now (schedule .entry)) width
         (columns (now (level .entry)) (now (low .entry)) (now (high .entry)) (now (a .entry)) (now (b .entry)) (now (c .entry)) (now (d .entry)))
-        (columns (now («other_level» .entry)) (now («other_low» .entry)) (now («other_high» .entry)) (now («other_a» .entry)) (now («other_b» .entry)) (now («other_c» .entry)) (now («other_d» .entry))) ⌝ }
+        (columns (now («other_level» .entry)) (now («other_low» .entry)) (now («other_high» .entry))
+        (now («other_a» .entry)) (now («other_b» .entry)) (now («other_c» .entry)) (now («other_d» .entry))) ⌝ }
 {
     let mut terminals = [0; 16384];
     let mut node_index = [0; 12288];
@@ -402,10 +409,12 @@ fn judge_large(
     requires { ⌜ AtMost 65536 (columns (now level) (now low) (now high) (now a) (now b) (now c) (now d)) ⌝ }
     ensures { λ r. ⌜ leaving r
         (columns (now (level .exit)) (now (low .exit)) (now (high .exit)) (now (a .exit)) (now (b .exit)) (now (c .exit)) (now (d .exit)))
-        (columns (now («other_level» .exit)) (now («other_low» .exit)) (now («other_high» .exit)) (now («other_a» .exit)) (now («other_b» .exit)) (now («other_c» .exit)) (now («other_d» .exit)))
+        (columns (now («other_level» .exit)) (now («other_low» .exit)) (now («other_high» .exit))
+        (now («other_a» .exit)) (now («other_b» .exit)) (now («other_c» .exit)) (now («other_d» .exit)))
         ≡ answer (now (u .entry)) (now (v .entry)) (now (schedule .entry)) width
         (columns (now (level .entry)) (now (low .entry)) (now (high .entry)) (now (a .entry)) (now (b .entry)) (now (c .entry)) (now (d .entry)))
-        (columns (now («other_level» .entry)) (now («other_low» .entry)) (now («other_high» .entry)) (now («other_a» .entry)) (now («other_b» .entry)) (now («other_c» .entry)) (now («other_d» .entry))) ⌝ }
+        (columns (now («other_level» .entry)) (now («other_low» .entry)) (now («other_high» .entry))
+        (now («other_a» .entry)) (now («other_b» .entry)) (now («other_c» .entry)) (now («other_d» .entry))) ⌝ }
 {
     let mut terminals = [0; 262144];
     let mut node_index = [0; 131072];
@@ -468,10 +477,12 @@ pub fn judge(
 ) -> Report
     ensures { λ r. ⌜ leaving r
         (columns (now (level .exit)) (now (low .exit)) (now (high .exit)) (now (a .exit)) (now (b .exit)) (now (c .exit)) (now (d .exit)))
-        (columns (now («other_level» .exit)) (now («other_low» .exit)) (now («other_high» .exit)) (now («other_a» .exit)) (now («other_b» .exit)) (now («other_c» .exit)) (now («other_d» .exit)))
+        (columns (now («other_level» .exit)) (now («other_low» .exit)) (now («other_high» .exit))
+        (now («other_a» .exit)) (now («other_b» .exit)) (now («other_c» .exit)) (now («other_d» .exit)))
         ≡ answer (now (u .entry)) (now (v .entry)) (now (schedule .entry)) w
         (columns (now (level .entry)) (now (low .entry)) (now (high .entry)) (now (a .entry)) (now (b .entry)) (now (c .entry)) (now (d .entry)))
-        (columns (now («other_level» .entry)) (now («other_low» .entry)) (now («other_high» .entry)) (now («other_a» .entry)) (now («other_b» .entry)) (now («other_c» .entry)) (now («other_d» .entry))) ⌝ }
+        (columns (now («other_level» .entry)) (now («other_low» .entry)) (now («other_high» .entry))
+        (now («other_a» .entry)) (now («other_b» .entry)) (now («other_c» .entry)) (now («other_d» .entry))) ⌝ }
 {
     let first = Lengths {
         level: level.len(),

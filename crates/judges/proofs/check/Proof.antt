@@ -32,7 +32,8 @@ unfolding checks
 returns-3 c =
     let c3 = c .before in
     let c2 = c3 .before .before in
-    rw (le-leb _ _ (c2 .before .if1 .left), le-leb _ _ (c2 .if2 .left), sym (c3 .before .fit-both .ensures) ∙ not-true _ (c3 .if3 .taken)) (c .call3 .ensures)
+    rw (le-leb _ _ (c2 .before .if1 .left), le-leb _ _ (c2 .if2 .left), sym (c3 .before .fit-both .ensures) ∙ not-true _ (c3 .if3 .taken))
+    (c .call3 .ensures)
 
 check-lists-requires : tie.Need-check-lists-requires
 check-lists-requires c κs = search needs
@@ -42,7 +43,8 @@ unfolding checks
 returns-4 c =
     let c3 = c .before in
     let c2 = c3 .before .before in
-    rw (le-leb _ _ (c2 .before .if1 .left), le-leb _ _ (c2 .if2 .left), sym (c3 .before .fit-both .ensures) ∙ not-false _ (c3 .if3 .left)) (c .check-lists .ensures)
+    rw (le-leb _ _ (c2 .before .if1 .left), le-leb _ _ (c2 .if2 .left), sym (c3 .before .fit-both .ensures) ∙ not-false _ (c3 .if3 .left))
+    (c .check-lists .ensures)
 
 pub check-spec : {M : Type 1} → statement M
 check-spec =

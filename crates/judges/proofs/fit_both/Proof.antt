@@ -19,7 +19,7 @@ fit-requires-2 c κs = search needs
 
 returns-2 : tie.Need-returns-2
 unfolding both-rules
-returns-2 c = 
+returns-2 c =
     let c1 = c .before .before in
     rw (sym (c1 .before .fit .ensures) ∙ not-false _ (c1 .if1 .left), sym (c .before .fit2 .ensures) ∙ not-true _ (c .if2 .taken))
 

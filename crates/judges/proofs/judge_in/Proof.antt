@@ -12,10 +12,14 @@ use Rattle.judges.proofs.judge_in.Tie as tie
 -- ---- the places behind the calls, nearest the entry first
 
 abbrev start : tie.After-run → tie.Start
-start c = c .before .before .before .before .before .before .before .before .before .before .before .before .before .before .before .before .before .before .before .before .before .before .before .before .before .before .before .before .before .before .before
+start c =
+    c .before .before .before .before .before .before .before .before .before .before .before .before .before .before .before .before .before .before
+    .before .before .before .before .before .before .before .before .before .before .before .before .before
 
 abbrev run-of : tie.After-wipe → tie.After-run
-run-of c = c .before .before .before .before .before .before .before .before .before .before .before .before .before .before .before .before .before .before .before .before .before .before .before .before .before .before .before .before .before .before .before .before .before .before .before
+run-of c =
+    c .before .before .before .before .before .before .before .before .before .before .before .before .before .before .before .before .before .before
+    .before .before .before .before .before .before .before .before .before .before .before .before .before .before .before .before .before
 
 abbrev second-wiped : tie.After-kept → tie.After-wipe
 second-wiped c = c .before .before .before .before .before .before .before .before .before .before .before
@@ -24,7 +28,14 @@ abbrev kept-of : tie.After-wipe2 → tie.After-kept
 kept-of c = c .before .before .before .before .before .before .before .before .before .before
 
 abbrev first-wiped : tie.After-report → tie.After-wipe2
-first-wiped c = c .before .before .before .before .before .before .before .before .before .before .before .before .before .before .before .before .before .before
+first-wiped c =
+    c .before .before .before .before .before .before .before .before .before .before .before .before .before .before .before .before .before .before
+
+abbrev the-wipe : tie.After-report → tie.After-wipe
+the-wipe c = second-wiped (kept-of (first-wiped c))
+
+abbrev the-run : tie.After-report → tie.After-run
+the-run c = run-of (the-wipe c)
 
 -- ---- the stores, at the entry and as the run leaves them
 
@@ -32,13 +43,19 @@ abbrev first-in : tie.Start → Columns
 first-in s = columns (s .args .level .now) (s .args .low .now) (s .args .high .now) (s .args .a .now) (s .args .b .now) (s .args .c .now) (s .args .d .now)
 
 abbrev second-in : tie.Start → Columns
-second-in s = columns (s .args .other-level .now) (s .args .other-low .now) (s .args .other-high .now) (s .args .other-a .now) (s .args .other-b .now) (s .args .other-c .now) (s .args .other-d .now)
+second-in s =
+    columns (s .args .other-level .now) (s .args .other-low .now) (s .args .other-high .now)
+    (s .args .other-a .now) (s .args .other-b .now) (s .args .other-c .now) (s .args .other-d .now)
 
 abbrev first-left : tie.After-run → Columns
-first-left c = let last = c .run .last .1 .1 .1 .1 .1 .1 in columns (last .0) (last .1 .0) (last .1 .1 .0) (last .1 .1 .1 .0) (last .1 .1 .1 .1 .0) (last .1 .1 .1 .1 .1 .0) (last .1 .1 .1 .1 .1 .1 .0)
+first-left c =
+    let last = c .run .last .1 .1 .1 .1 .1 .1 in
+    columns (last .0) (last .1 .0) (last .1 .1 .0) (last .1 .1 .1 .0) (last .1 .1 .1 .1 .0) (last .1 .1 .1 .1 .1 .0) (last .1 .1 .1 .1 .1 .1 .0)
 
 abbrev second-left : tie.After-run → Columns
-second-left c = let last = c .run .last .1 .1 .1 .1 .1 .1 .1 .1 .1 .1 .1 .1 .1 in columns (last .0) (last .1 .0) (last .1 .1 .0) (last .1 .1 .1 .0) (last .1 .1 .1 .1 .0) (last .1 .1 .1 .1 .1 .0) (last .1 .1 .1 .1 .1 .1 .0)
+second-left c =
+    let last = c .run .last .1 .1 .1 .1 .1 .1 .1 .1 .1 .1 .1 .1 .1 in
+    columns (last .0) (last .1 .0) (last .1 .1 .0) (last .1 .1 .1 .0) (last .1 .1 .1 .1 .0) (last .1 .1 .1 .1 .1 .0) (last .1 .1 .1 .1 .1 .1 .0)
 
 first-same : (c : tie.After-run) → Same-lengths (first-in (start c)) (first-left c)
 first-same c = let kept = c .run .kept .1 .1 .1 .1 .1 .1 in record {
@@ -79,10 +96,17 @@ over c = record {
 -- ---- the needs
 
 run-requires : tie.Need-run-requires
-run-requires c κs = let s = c .before .before .before .before .before .before .before .before .before .before .before .before .before .before .before .before .before .before .before .before .before .before .before .before .before .before .before .before .before .before in passed-task _ _ _ _ _ _ _ _ _ _ _ (s .pre .1) _ (s .pre .0)
+run-requires c κs =
+    let s =
+    c .before .before .before .before .before .before .before .before .before .before .before .before .before .before .before .before .before
+    .before .before .before .before .before .before .before .before .before .before .before .before .before in
+    passed-task (s .pre .0) (s .pre .1)
 
 wipe-requires : tie.Need-wipe-requires
-wipe-requires c κs = second-slots _ _ _ _ _ _ _ _ _ _ _ _ _ _ _ (over (c .before .before .before .before .before .before .before .before .before .before .before .before .before .before .before .before .before .before .before .before .before .before .before .before .before .before .before .before .before .before .before .before .before .before))
+wipe-requires c κs = second-slots (over (
+    c .before .before .before .before .before .before .before .before .before .before .before .before .before .before .before .before .before
+    .before .before .before .before .before .before .before .before .before .before .before .before .before .before .before .before .before
+    ))
 
 kept-requires : tie.Need-kept-requires
 kept-requires c κs = search needs
@@ -90,24 +114,27 @@ kept-requires c κs = search needs
 cast-wipe : tie.Need-cast-wipe
 cast-wipe c =
     let k = c .before .before .before .before .before .before .before .before in
-    let few = few-kept _ _ _ _ _ _ _ _ _ _ _ _ _ _ _ (over (run-of (second-wiped k))) _ (k .kept .ensures) .0 in
+    let few = few-kept (over (run-of (second-wiped k))) _ (k .kept .ensures) .0 in
     omega (arith, few)
 
 cast-wipe-2 : tie.Need-cast-wipe-2
 cast-wipe-2 c =
     let k = c .before .before .before .before .before .before .before .before .before in
-    let few = few-kept _ _ _ _ _ _ _ _ _ _ _ _ _ _ _ (over (run-of (second-wiped k))) _ (k .kept .ensures) .1 in
+    let few = few-kept (over (run-of (second-wiped k))) _ (k .kept .ensures) .1 in
     omega (arith, few)
 
 wipe-requires-2 : tie.Need-wipe-requires-2
-wipe-requires-2 c κs = let k = c .before .before .before .before .before .before .before .before .before in first-slots _ _ _ _ _ _ _ _ _ _ _ _ _ _ _ (over (run-of (second-wiped k))) _ (k .kept .ensures)
+wipe-requires-2 c κs =
+    let k = c .before .before .before .before .before .before .before .before .before in
+    first-slots (over (run-of (second-wiped k))) _ (k .kept .ensures)
 
 report-requires : tie.Need-report-requires
 report-requires c κs =
-    let w = c .before .before .before .before .before .before .before .before .before .before .before .before .before .before .before .before .before in
+    let w =
+    c .before .before .before .before .before .before .before .before .before .before .before .before .before .before .before .before .before in
     let k = kept-of w in
     let kept = w .wipe2 .kept in
-    over-readable _ _ _ _ _ _ _ _ _ _ _ _ _ _ _ (over (run-of (second-wiped k))) _ (k .kept .ensures) _ (w .wipe2 .ensures)
+    over-readable (over (run-of (second-wiped k))) _ (k .kept .ensures) _ (w .wipe2 .ensures)
     (record {
       of-level = kept .0;
       of-low = kept .1 .0;
@@ -119,65 +146,65 @@ report-requires c κs =
     })
 
 same-length : tie.Need-same-length
-same-length c = first-wiped c .wipe2 .kept .0 ∙ run-of (second-wiped (kept-of (first-wiped c))) .run .kept .1 .1 .1 .1 .1 .1 .0
+same-length c = first-wiped c .wipe2 .kept .0 ∙ the-run c .run .kept .1 .1 .1 .1 .1 .1 .0
 
 same-length-2 : tie.Need-same-length-2
-same-length-2 c = first-wiped c .wipe2 .kept .1 .0 ∙ run-of (second-wiped (kept-of (first-wiped c))) .run .kept .1 .1 .1 .1 .1 .1 .1 .0
+same-length-2 c = first-wiped c .wipe2 .kept .1 .0 ∙ the-run c .run .kept .1 .1 .1 .1 .1 .1 .1 .0
 
 same-length-3 : tie.Need-same-length-3
-same-length-3 c = first-wiped c .wipe2 .kept .1 .1 .0 ∙ run-of (second-wiped (kept-of (first-wiped c))) .run .kept .1 .1 .1 .1 .1 .1 .1 .1 .0
+same-length-3 c = first-wiped c .wipe2 .kept .1 .1 .0 ∙ the-run c .run .kept .1 .1 .1 .1 .1 .1 .1 .1 .0
 
 same-length-4 : tie.Need-same-length-4
-same-length-4 c = first-wiped c .wipe2 .kept .1 .1 .1 .0 ∙ run-of (second-wiped (kept-of (first-wiped c))) .run .kept .1 .1 .1 .1 .1 .1 .1 .1 .1 .0
+same-length-4 c = first-wiped c .wipe2 .kept .1 .1 .1 .0 ∙ the-run c .run .kept .1 .1 .1 .1 .1 .1 .1 .1 .1 .0
 
 same-length-5 : tie.Need-same-length-5
-same-length-5 c = first-wiped c .wipe2 .kept .1 .1 .1 .1 .0 ∙ run-of (second-wiped (kept-of (first-wiped c))) .run .kept .1 .1 .1 .1 .1 .1 .1 .1 .1 .1 .0
+same-length-5 c = first-wiped c .wipe2 .kept .1 .1 .1 .1 .0 ∙ the-run c .run .kept .1 .1 .1 .1 .1 .1 .1 .1 .1 .1 .0
 
 same-length-6 : tie.Need-same-length-6
-same-length-6 c = first-wiped c .wipe2 .kept .1 .1 .1 .1 .1 .0 ∙ run-of (second-wiped (kept-of (first-wiped c))) .run .kept .1 .1 .1 .1 .1 .1 .1 .1 .1 .1 .1 .0
+same-length-6 c = first-wiped c .wipe2 .kept .1 .1 .1 .1 .1 .0 ∙ the-run c .run .kept .1 .1 .1 .1 .1 .1 .1 .1 .1 .1 .1 .0
 
 same-length-7 : tie.Need-same-length-7
-same-length-7 c = first-wiped c .wipe2 .kept .1 .1 .1 .1 .1 .1 .0 ∙ run-of (second-wiped (kept-of (first-wiped c))) .run .kept .1 .1 .1 .1 .1 .1 .1 .1 .1 .1 .1 .1 .0
+same-length-7 c = first-wiped c .wipe2 .kept .1 .1 .1 .1 .1 .1 .0 ∙ the-run c .run .kept .1 .1 .1 .1 .1 .1 .1 .1 .1 .1 .1 .1 .0
 
 same-length-8 : tie.Need-same-length-8
-same-length-8 c = second-wiped (kept-of (first-wiped c)) .wipe .kept .0 ∙ run-of (second-wiped (kept-of (first-wiped c))) .run .kept .1 .1 .1 .1 .1 .1 .1 .1 .1 .1 .1 .1 .1 .0
+same-length-8 c = the-wipe c .wipe .kept .0 ∙ the-run c .run .kept .1 .1 .1 .1 .1 .1 .1 .1 .1 .1 .1 .1 .1 .0
 
 same-length-9 : tie.Need-same-length-9
-same-length-9 c = second-wiped (kept-of (first-wiped c)) .wipe .kept .1 .0 ∙ run-of (second-wiped (kept-of (first-wiped c))) .run .kept .1 .1 .1 .1 .1 .1 .1 .1 .1 .1 .1 .1 .1 .1 .0
+same-length-9 c = the-wipe c .wipe .kept .1 .0 ∙ the-run c .run .kept .1 .1 .1 .1 .1 .1 .1 .1 .1 .1 .1 .1 .1 .1 .0
 
 same-length-10 : tie.Need-same-length-10
-same-length-10 c = second-wiped (kept-of (first-wiped c)) .wipe .kept .1 .1 .0 ∙ run-of (second-wiped (kept-of (first-wiped c))) .run .kept .1 .1 .1 .1 .1 .1 .1 .1 .1 .1 .1 .1 .1 .1 .1 .0
+same-length-10 c = the-wipe c .wipe .kept .1 .1 .0 ∙ the-run c .run .kept .1 .1 .1 .1 .1 .1 .1 .1 .1 .1 .1 .1 .1 .1 .1 .0
 
 same-length-11 : tie.Need-same-length-11
-same-length-11 c = second-wiped (kept-of (first-wiped c)) .wipe .kept .1 .1 .1 .0 ∙ run-of (second-wiped (kept-of (first-wiped c))) .run .kept .1 .1 .1 .1 .1 .1 .1 .1 .1 .1 .1 .1 .1 .1 .1 .1 .0
+same-length-11 c = the-wipe c .wipe .kept .1 .1 .1 .0 ∙ the-run c .run .kept .1 .1 .1 .1 .1 .1 .1 .1 .1 .1 .1 .1 .1 .1 .1 .1 .0
 
 same-length-12 : tie.Need-same-length-12
-same-length-12 c = second-wiped (kept-of (first-wiped c)) .wipe .kept .1 .1 .1 .1 .0 ∙ run-of (second-wiped (kept-of (first-wiped c))) .run .kept .1 .1 .1 .1 .1 .1 .1 .1 .1 .1 .1 .1 .1 .1 .1 .1 .1 .0
+same-length-12 c = the-wipe c .wipe .kept .1 .1 .1 .1 .0 ∙ the-run c .run .kept .1 .1 .1 .1 .1 .1 .1 .1 .1 .1 .1 .1 .1 .1 .1 .1 .1 .0
 
 same-length-13 : tie.Need-same-length-13
-same-length-13 c = second-wiped (kept-of (first-wiped c)) .wipe .kept .1 .1 .1 .1 .1 .0 ∙ run-of (second-wiped (kept-of (first-wiped c))) .run .kept .1 .1 .1 .1 .1 .1 .1 .1 .1 .1 .1 .1 .1 .1 .1 .1 .1 .1 .0
+same-length-13 c = the-wipe c .wipe .kept .1 .1 .1 .1 .1 .0 ∙ the-run c .run .kept .1 .1 .1 .1 .1 .1 .1 .1 .1 .1 .1 .1 .1 .1 .1 .1 .1 .1 .0
 
 same-length-14 : tie.Need-same-length-14
-same-length-14 c = second-wiped (kept-of (first-wiped c)) .wipe .kept .1 .1 .1 .1 .1 .1 .0 ∙ run-of (second-wiped (kept-of (first-wiped c))) .run .kept .1 .1 .1 .1 .1 .1 .1 .1 .1 .1 .1 .1 .1 .1 .1 .1 .1 .1 .1 .0
+same-length-14 c = the-wipe c .wipe .kept .1 .1 .1 .1 .1 .1 .0 ∙ the-run c .run .kept .1 .1 .1 .1 .1 .1 .1 .1 .1 .1 .1 .1 .1 .1 .1 .1 .1 .1 .1 .0
 
 same-length-15 : tie.Need-same-length-15
-same-length-15 c = run-of (second-wiped (kept-of (first-wiped c))) .run .kept .1 .1 .1 .1 .1 .1 .1 .1 .1 .1 .1 .1 .1 .1 .1 .1 .1 .1 .1 .1 .0
+same-length-15 c = the-run c .run .kept .1 .1 .1 .1 .1 .1 .1 .1 .1 .1 .1 .1 .1 .1 .1 .1 .1 .1 .1 .1 .0
 
 same-length-16 : tie.Need-same-length-16
-same-length-16 c = run-of (second-wiped (kept-of (first-wiped c))) .run .kept .1 .1 .1 .1 .1 .1 .1 .1 .1 .1 .1 .1 .1 .1 .1 .1 .1 .1 .1 .1 .1 .0
+same-length-16 c = the-run c .run .kept .1 .1 .1 .1 .1 .1 .1 .1 .1 .1 .1 .1 .1 .1 .1 .1 .1 .1 .1 .1 .1 .0
 
 same-length-17 : tie.Need-same-length-17
-same-length-17 c = run-of (second-wiped (kept-of (first-wiped c))) .run .kept .1 .1 .1 .1 .1 .1 .1 .1 .1 .1 .1 .1 .1 .1 .1 .1 .1 .1 .1 .1 .1 .1 .0
+same-length-17 c = the-run c .run .kept .1 .1 .1 .1 .1 .1 .1 .1 .1 .1 .1 .1 .1 .1 .1 .1 .1 .1 .1 .1 .1 .1 .0
 
 same-length-18 : tie.Need-same-length-18
-same-length-18 c = run-of (second-wiped (kept-of (first-wiped c))) .run .kept .1 .1 .1 .1 .1 .1 .1 .1 .1 .1 .1 .1 .1 .1 .1 .1 .1 .1 .1 .1 .1 .1 .1 .0
+same-length-18 c = the-run c .run .kept .1 .1 .1 .1 .1 .1 .1 .1 .1 .1 .1 .1 .1 .1 .1 .1 .1 .1 .1 .1 .1 .1 .1 .0
 
 returns : tie.Need-returns
 returns c =
     let w = first-wiped c in
     let k = kept-of w in
     let o = second-wiped k in
-    over-answer _ _ _ _ _ _ _ _ _ _ _ _ _ _ _ (over (run-of o)) _ (k .kept .ensures) _ (w .wipe2 .ensures) _ (o .wipe .ensures) (c .report .ensures)
+    over-answer (over (run-of o)) _ (k .kept .ensures) _ (w .wipe2 .ensures) _ (o .wipe .ensures) (c .report .ensures)
 
 pub judge-in-spec : {M : Type 1} → statement M
 judge-in-spec =
