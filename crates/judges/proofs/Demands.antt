@@ -31,11 +31,12 @@ use Rattle.miters.proofs.Schedules.{miter-power}
 use Rattle.miters.proofs.Scalars.{turns-unique}
 use Rattle.miters.proofs.Runs.{Ends, ended-ends, ends-only, Answered, judged-miter, Agree, two-runs}
 use Rattle.miters.proofs.Verdicts.{Says, verdict-says, verdict-equal-iff}
-use Rattle.judges.specs.Answer.{lengths, Checks, refuses, passes, lent, answer-by, answer}
+use Rattle.checks.specs.Checks.{lengths, Checks, refuses, passes}
+use Rattle.judges.specs.Answer.{lent, answer-by, answer}
 use Rattle.judges.specs.Calls.{leaving}
-use Rattle.judges.specs.Table.{all-hold}
+use Rattle.checks.specs.Table.{all-hold}
 use Rattle.judges.specs.Demands.{answered, all-zero, Line, Before-run, In-run, Demand-1, Read-as, Demand-2, Demand-3}
-use Rattle.judges.proofs.Checks.{checks-checking, checking-checks}
+use Rattle.checks.proofs.Checks.{checks-checking, checking-checks}
 
 -- ---- demand 1
 

@@ -1,6 +1,3 @@
-pub mod Checks
-pub mod Rules
-pub mod Lists
 pub mod Passing
 pub mod Scratches
 pub mod Reports

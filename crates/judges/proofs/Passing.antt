@@ -19,15 +19,17 @@ use Rattle.miters.specs.Report.{refused}
 use Rattle.miters.specs.Run.{ended, outcome, judged}
 use Rattle.steps.specs.declared.Sizes.{Sizes}
 use Rattle.steps.specs.Stepping.{Scratch, lent-with}
-use Rattle.runs.specs.declared.Offsets.{Offsets}
+use Rattle.choices.specs.declared.Offsets.{Offsets}
 use Rattle.runs.specs.Running.{Task}
-use Rattle.judges.specs.declared.Lengths.{Lengths}
-use Rattle.judges.specs.declared.Checked.the-variants.{Refused, Pair}
-use Rattle.judges.specs.Answer.{lengths, Checks, refuses, passes, checks, lent, answer-by, answer}
-use Rattle.judges.specs.Calls.{checked, Passed, AtMost, leaving}
-use Rattle.judges.specs.Table.{Checking, all-hold}
-use Rattle.judges.proofs.Checks.{checks-checking}
-use Rattle.judges.proofs.Rules.{both-hold, first-long, second-long}
+use Rattle.checks.specs.declared.Lengths.{Lengths}
+use Rattle.checks.specs.declared.Checked.the-variants.{Refused, Pair}
+use Rattle.checks.specs.Checks.{lengths, Checks, refuses, passes, checks}
+use Rattle.judges.specs.Answer.{lent, answer-by, answer}
+use Rattle.checks.specs.Checks.{checked}
+use Rattle.judges.specs.Calls.{Passed, AtMost, leaving}
+use Rattle.checks.specs.Table.{Checking, all-hold}
+use Rattle.checks.proofs.Checks.{checks-checking}
+use Rattle.checks.proofs.Rules.{both-hold, first-long, second-long}
 
 -- what the run is given, and that the answer is its outcome
 pub record Running (u v schedule : List ℕ) (n : ℕ) (offsets : Offsets) (sizes : Sizes) (first second : Columns)

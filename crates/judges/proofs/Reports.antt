@@ -1,6 +1,6 @@
 -- What is kept and reported of a run that ended is the outcome that the paper defines.
 -- Assumes nothing.
-use mathlib.Core.Path.{_≡_, sym, _∙_, ap, subst}
+use mathlib.Core.Path.{_≡_, sym, _∙_, ap}
 use mathlib.Core.List.{List}
 use Prim.Native.Nat.{ℕ, _-_, _≤_}
 use native.Mathlib.Omega.{arith}
@@ -11,23 +11,20 @@ use Rattle.diagrams.specs.Diagram.{node, diagram}
 use Rattle.diagrams.specs.Columns.{Columns, column, held, cleared, wiped, NodeColumns, ValueColumns}
 use Rattle.diagrams.proofs.Stores.{wiped-held}
 use Rattle.miters.specs.declared.Report.{Report}
-use Rattle.miters.specs.declared.Verdict.{Verdict}
 use Rattle.miters.specs.Report.{verdict, finished}
 use Rattle.miters.specs.Miter.{steps}
 use Rattle.miters.specs.Run.{Lent, Ended, ended, outcome}
 use Rattle.searches.specs.Slots.{store-in}
-use Rattle.searches.specs.Search.{given}
-use Rattle.searches.specs.Ready.{Searchable}
 use Rattle.searches.proofs.Held.{store-held, diagram-searchable, diagram-verdict}
 use Rattle.steps.specs.declared.Used.{Used}
 use Rattle.steps.specs.declared.Sizes.{Sizes}
 use Rattle.steps.specs.Stepping.{Source, Long, Scratch, lent-with}
-use Rattle.runs.specs.declared.Offsets.{Offsets}
+use Rattle.choices.specs.declared.Offsets.{Offsets}
 use Rattle.runs.specs.declared.End.{End}
-use Rattle.runs.specs.declared.End.the-variants.{Done}
 use Rattle.runs.specs.Running.{Task, Ran, ran, refused, Left}
 use Rattle.judges.specs.Answer.{answer}
-use Rattle.judges.specs.Calls.{Passed, kept, Readable, report-of, leaving}
+use Rattle.endings.specs.Ending.{kept, Readable, report-of}
+use Rattle.judges.specs.Calls.{Passed, leaving}
 use Rattle.judges.proofs.Passing.{Running, passed-running}
 
 -- ---- columns that are all 0
@@ -94,18 +91,6 @@ module _ {N L n : ℕ} {M : Matrix} {used : Used} {C : Columns} (source : Source
     root-is =
         let last : source .root .0 ≡ used .nodes - 1 = omega (arith, source .nodes, source .root .2) in
         source .root .1 ∙ ap node last
-
--- ---- its report, by how it ended
-
-module _ (n : ℕ) (C : Columns) {r : End} where
-  pub done-searchable : {steps exponent : ℕ} {used : Used} → Readable n C r → r ≡ Done steps exponent used
-      → Searchable n (used .nodes) (used .values) C
-  done-searchable readable e = subst (Readable n C) e readable
-
-  pub done-report : {steps exponent : ℕ} {used : Used} {v : Verdict} → r ≡ Done steps exponent used
-      → v ≡ verdict n (given (store-in (used .nodes) (used .values) C) (node (used .nodes - 1)))
-      → record { verdict = v; exponent = exponent; steps = steps; nodes = used .nodes; values = used .values } ≡ report-of n C r
-  done-report e f = rw (e, f)
 
 -- ---- how a run ended
 

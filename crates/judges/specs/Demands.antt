@@ -19,9 +19,10 @@ use Rattle.miters.specs.Report.{refused}
 use Rattle.miters.specs.Run.{Lent, stopped, Outcome}
 use Rattle.miters.proofs.Runs.{Ends, Agree}
 use Rattle.miters.proofs.Verdicts.{Says}
-use Rattle.judges.specs.Answer.{lengths, Checks, refuses, passes, lent, answer}
+use Rattle.checks.specs.Checks.{lengths, Checks, refuses, passes}
+use Rattle.judges.specs.Answer.{lent, answer}
 use Rattle.judges.specs.Calls.{leaving}
-use Rattle.judges.specs.Table.{Checking}
+use Rattle.checks.specs.Table.{Checking}
 
 -- ---- demand 1: each refusal exactly under its conditions, and what the stores then hold
 

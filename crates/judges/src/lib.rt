@@ -1,215 +1,17 @@
 // The call that judges two gate lists: the checks, the run, the report, and what the stores hold then.
-use circuits::ListRead;
-use miters::Refusal;
+use checks::Checked;
+use checks::Lengths;
+use choices::Offsets;
 use miters::Report;
-use miters::Verdict;
 use runs::End;
-use runs::Offsets;
 use steps::Sizes;
 use steps::Used;
 ghost use mathlib.Core.Path.{_≡_};
 ghost use lib.ListN.{length};
 ghost use Rattle.diagrams.specs.Columns.{columns};
-ghost use Rattle.miters.specs.declared.Refusal.the-variants.{Call};
-ghost use Rattle.miters.specs.Report.{refused};
 ghost use Rattle.steps.specs.Stepping.{Scratch};
-ghost use Rattle.judges.specs.declared.Checked.the-variants.{Refused};
-ghost use Rattle.judges.specs.Answer.{store-rules, both-rules, at-byte, check-lists, checks, answer};
-ghost use Rattle.judges.specs.Calls.{checked, Passed, AtMost, kept, Readable, report-of, leaving};
-
-// ---- the checks
-
-// The lengths of a store's columns.
-struct Lengths {
-    level: usize,
-    low: usize,
-    high: usize,
-    a: usize,
-    b: usize,
-    c: usize,
-    d: usize,
-}
-
-// What the checks before the run find: a refusal, or the qubit count and where the gates of the two lists begin.
-enum Checked {
-    Refused(Refusal),
-    Pair { n: u32, offsets: Offsets },
-}
-
-fn call(number: u32) -> Checked
-    ensures { λ r. ⌜ r ≡ Refused (Call number) ⌝ }
-{
-    Checked::Refused(Refusal::Call { number })
-}
-
-fn byte(list: u32, why: circuits::Refusal) -> Checked
-    ensures { λ r. ⌜ r ≡ Refused (at-byte list why) ⌝ }
-{
-    Checked::Refused(Refusal::Byte {
-        number: why.number,
-        list,
-        offset: why.offset,
-    })
-}
-
-// Three node columns of one length up to 65,536, four value columns of one length from 1 to 65,536.
-fn fit(l: Lengths) -> bool
-    ensures { λ r. ⌜ r ≡ store-rules l ⌝ }
-{
-    if 65536 < l.level {
-        return false;
-    }
-    if l.low != l.level {
-        return false;
-    }
-    if l.high != l.level {
-        return false;
-    }
-    if l.a < 1 {
-        return false;
-    }
-    if 65536 < l.a {
-        return false;
-    }
-    if l.b != l.a {
-        return false;
-    }
-    if l.c != l.a {
-        return false;
-    }
-    l.d == l.a
-}
-
-fn fit_both(first: Lengths, second: Lengths) -> bool
-    ensures { λ r. ⌜ r ≡ both-rules first second ⌝ }
-{
-    if !fit(first) {
-        return false;
-    }
-    if !fit(second) {
-        return false;
-    }
-    if first.level != second.level {
-        return false;
-    }
-    first.a == second.a
-}
-
-fn check_lists(u: &[u8], v: &[u8], schedule: &[u8]) -> Checked
-    ensures { λ r. ⌜ r ≡ checked (check-lists (now (u .entry)) (now (v .entry)) (now (schedule .entry))) ⌝ }
-{
-    match circuits::check_list(u, circuits::base_limits()) {
-        ListRead::Refused(why) => byte(1, why),
-        ListRead::List {
-            qubits,
-            gates,
-            first,
-        } => match circuits::check_list(v, circuits::base_limits()) {
-            ListRead::Refused(why) => byte(2, why),
-            ListRead::List {
-                qubits: other_qubits,
-                gates: other_gates,
-                first: second,
-            } => {
-                if qubits != other_qubits {
-                    return call(11);
-                }
-                if !schedules::fits(schedule, gates, other_gates) {
-                    return call(12);
-                }
-                Checked::Pair {
-                    n: qubits,
-                    offsets: Offsets { first, second },
-                }
-            }
-        },
-    }
-}
-
-fn check(u: &[u8], v: &[u8], schedule: &[u8], w: u32, first: Lengths, second: Lengths) -> Checked
-    ensures { λ r. ⌜ r ≡ checked (checks (now (u .entry)) (now (v .entry)) (now (schedule .entry)) w first second) ⌝ }
-{
-    if w < 2 {
-        return call(1);
-    }
-    if 32 < w {
-        return call(1);
-    }
-    if !fit_both(first, second) {
-        return call(2);
-    }
-    check_lists(u, v, schedule)
-}
-
-// ---- the report
-
-fn refused(why: Refusal) -> Report
-    ensures { λ r. ⌜ r ≡ refused why ⌝ }
-{
-    Report {
-        verdict: Verdict::Refused(why),
-        exponent: 0,
-        steps: 0,
-        nodes: 0,
-        values: 0,
-    }
-}
-
-// How much of the first store is kept after a run.
-fn kept(ended: End) -> Used
-    ensures { λ r. ⌜ r ≡ kept ended ⌝ }
-{
-    match ended {
-        End::Stopped(_why) => Used {
-            nodes: 0,
-            values: 0,
-        },
-        End::Done {
-            steps: _steps,
-            exponent: _exponent,
-            used,
-        } => used,
-    }
-}
-
-// The report of a run, with the verdict read off the first store.
-fn report(
-    level: &[u32],
-    low: &[u32],
-    high: &[u32],
-    a: &[i32],
-    b: &[i32],
-    c: &[i32],
-    d: &[i32],
-    n: u32,
-    ended: End,
-) -> Report
-    requires { ⌜ Readable n (columns (now level) (now low) (now high) (now a) (now b) (now c) (now d)) ended ⌝ }
-    ensures { λ r. ⌜ r ≡ report-of n
-        (columns (now (level .entry)) (now (low .entry)) (now (high .entry)) (now (a .entry)) (now (b .entry)) (now (c .entry)) (now (d .entry))) ended ⌝ }
-{
-    match ended {
-        End::Stopped(why) => refused(why),
-        End::Done {
-            steps,
-            exponent,
-            used,
-        } => {
-            let nodes = used.nodes;
-            let values = used.values;
-            let verdict = searches::read_verdict(level, low, high, a, b, c, d, nodes, values, n);
-            Report {
-                verdict,
-                exponent,
-                steps,
-                nodes,
-                values,
-            }
-        }
-    }
-}
-
-// ---- the run
+ghost use Rattle.judges.specs.Answer.{answer};
+ghost use Rattle.judges.specs.Calls.{Passed, AtMost, leaving};
 
 // The slots kept of the second store.
 const NOTHING: usize = 0;
@@ -291,7 +93,7 @@ fn judge_in(
         NOTHING,
         NOTHING,
     );
-    let used = kept(ended);
+    let used = endings::kept(ended);
     diagrams::wipe(
         level,
         low,
@@ -303,7 +105,7 @@ fn judge_in(
         used.nodes as usize,
         used.values as usize,
     );
-    report(level, low, high, a, b, c, d, n, ended)
+    endings::report(level, low, high, a, b, c, d, n, ended)
 }
 
 // Stores of up to 4,096 nodes and values: scratch of 393,216 bytes.
@@ -502,8 +304,8 @@ pub fn judge(
         c: other_c.len(),
         d: other_d.len(),
     };
-    match check(u, v, schedule, w, first, second) {
-        Checked::Refused(why) => refused(why),
+    match checks::check(u, v, schedule, w, first, second) {
+        Checked::Refused(why) => endings::refused(why),
         Checked::Pair { n, offsets } => {
             if first.level <= 4096 {
                 if first.a <= 4096 {

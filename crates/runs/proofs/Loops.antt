@@ -17,12 +17,13 @@ use Rattle.transitions.specs.Prepare.{as-number}
 use Rattle.steps.specs.declared.Sizes.{Sizes}
 use Rattle.steps.specs.Stepping.{lent-with}
 use Rattle.steps.specs.Stepping as stepping
-use Rattle.runs.specs.declared.Offsets.{Offsets}
-use Rattle.runs.specs.declared.Next.{Next}
+use Rattle.choices.specs.declared.Offsets.{Offsets}
+use Rattle.choices.specs.declared.Next.{Next}
 use Rattle.runs.specs.declared.End.{End}
 use Rattle.runs.specs.declared.End.the-variants.{Done, Stopped}
 use Rattle.runs.specs.Running.{Task, Ran}
-use Rattle.runs.specs.Inside.{Chosen, current, used-in, Room, Begun, Started, Followed}
+use Rattle.choices.specs.Choosing.{Chosen}
+use Rattle.runs.specs.Inside.{current, used-in, Room, Begun, Started, Followed}
 use Rattle.runs.proofs.Stores.{Kept, kept-all, kept-then, long-kept, Tables, TablesKept, tables-kept-all, tables-kept-then, scratch-kept}
 use Rattle.runs.proofs.Stores.{current-next, current-long, start-source, no-nodes, no-values, room-followed}
 use Rattle.runs.proofs.Reached.{fits-fitting, fitting-length}

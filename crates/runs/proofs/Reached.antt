@@ -15,7 +15,7 @@ use Rattle.diagrams.proofs.Tests.{both-true, true-both}
 use Rattle.miters.specs.Miter.{Over, start, Step, left, right, stepped, run, steps}
 use Rattle.miters.proofs.Schedules.{schedule-miter}
 use Rattle.miters.proofs.Roots.{miter-root}
-use Rattle.runs.specs.Inside.{Takes, from-U, from-V}
+use Rattle.choices.specs.Choosing.{Takes, from-U, from-V}
 
 -- ---- schedules that fit
 

@@ -18,7 +18,7 @@ use Rattle.miters.specs.Run.{Lent, Ended, done, stopped, ended}
 use Rattle.steps.specs.declared.Sizes.{Sizes}
 use Rattle.steps.specs.declared.Used.{Used}
 use Rattle.steps.specs.Stepping.{Source, Long, Scratch, lent-with}
-use Rattle.runs.specs.declared.Offsets.{Offsets}
+use Rattle.choices.specs.declared.Offsets.{Offsets}
 use Rattle.runs.specs.declared.End.{End}
 use Rattle.runs.specs.declared.End.the-variants.{Done, Stopped}
 

@@ -1,39 +1,13 @@
 // A run along a schedule: from the identity, step by step, the two stores taking turns.
-use circuits::GateRead;
-use gates::Decision;
-use gates::Phases;
-use gates::Rule;
+use choices::Offsets;
 use miters::Refusal;
 use steps::Action;
 use steps::Sizes;
 use steps::Used;
-ghost use mathlib.Core.Path.{_≡_};
-ghost use mathlib.Core.Bool.{cond};
-ghost use lib.Dec.{eqb};
-ghost use Rattle.miters.specs.declared.Refusal.the-variants.{Step as at-step};
-ghost use Rattle.transitions.specs.Prepare.{as-number};
 ghost use Rattle.diagrams.specs.Columns.{columns};
 ghost use Rattle.steps.specs.Stepping as stepping;
 ghost use Rattle.runs.specs.Running.{Task, Left};
-ghost use Rattle.runs.specs.Inside.{Ruled, Sided, Read, Chosen, current, used-in, Room, Begun, Started, Followed};
-
-// Where the gates of the two lists are read next.
-pub struct Offsets {
-    pub first: usize,
-    pub second: usize,
-}
-
-// A gate for a side, and the offset after it.
-struct Taken {
-    action: Action,
-    next: usize,
-}
-
-// The gate of a step, and where the gates of the two lists are read after it.
-struct Next {
-    action: Action,
-    offsets: Offsets,
-}
+ghost use Rattle.runs.specs.Inside.{current, used-in, Room, Begun, Started, Followed};
 
 // How a run ends: the steps, the exponent, and how much of the first store holds the miter; or the refusal of a step.
 pub enum End {
@@ -43,114 +17,6 @@ pub enum End {
         used: Used,
     },
     Stopped(Refusal),
-}
-
-// ---- the gate of a step
-
-// The data of a code that is known; any data of another.
-fn rule_of(code: u32) -> Rule
-    ensures { λ r. ⌜ Ruled code r ⌝ }
-{
-    match gates::decide(code) {
-        Decision::Known(rule) => rule,
-        Decision::Unknown => Rule {
-            qubits: 0,
-            mixes: false,
-            flips: false,
-            left: Phases { zero: 0, one: 0 },
-            right: Phases { zero: 0, one: 0 },
-            inverse: 0,
-        },
-    }
-}
-
-// The data of a gate put on the left, side 0, or of its inverse put on the right, side 1.
-fn rule_on(side: u32, code: u32) -> Rule
-    ensures { λ r. ⌜ Sided side code r ⌝ }
-{
-    let rule = rule_of(code);
-    if side == 0 {
-        return rule;
-    }
-    rule_of(rule.inverse)
-}
-
-// The gate that stands at an offset of a list on n qubits, for the left or, inverted, for the right.
-fn take(bytes: &[u8], at: usize, n: u32, side: u32) -> Taken
-    ensures { λ r. ⌜ Read (now (bytes .entry)) at n side r ⌝ }
-{
-    match circuits::read_gate(bytes, at, n) {
-        GateRead::Gate {
-            code,
-            control,
-            target,
-            next,
-        } => Taken {
-            action: Action {
-                rule: rule_on(side, code),
-                side,
-                control,
-                target,
-            },
-            next,
-        },
-        GateRead::Refused(_) => Taken {
-            action: Action {
-                rule: rule_of(0),
-                side,
-                control: 0,
-                target: 0,
-            },
-            next: at,
-        },
-    }
-}
-
-// The gate of a step: the next of U for the left, or the next of V, inverted, for the right.
-fn choose(u: &[u8], v: &[u8], step: u8, offsets: Offsets, n: u32) -> Next
-    ensures { λ r. ⌜ Chosen (now (u .entry)) (now (v .entry)) step offsets n r ⌝ }
-{
-    if step == 0 {
-        let taken = take(u, offsets.first, n, 0);
-        let action = taken.action;
-        return Next {
-            action,
-            offsets: Offsets {
-                first: taken.next,
-                second: offsets.second,
-            },
-        };
-    }
-    let taken = take(v, offsets.second, n, 1);
-    let action = taken.action;
-    Next {
-        action,
-        offsets: Offsets {
-            first: offsets.first,
-            second: taken.next,
-        },
-    }
-}
-
-// What a step adds to the exponent.
-fn halves(action: Action) -> u32
-    ensures { λ r. ⌜ r ≡ as-number (action .rule .mixes) ⌝ }
-{
-    let rule = action.rule;
-    if rule.mixes {
-        return 1;
-    }
-    0
-}
-
-// The refusal of a step: there was no room for its product, or a number of it lay outside the width.
-fn refusal(why: u32, steps: u32) -> Refusal
-    ensures { λ r. ⌜ r ≡ at-step (cond (eqb why 1) 14 13) steps ⌝ }
-{
-    if why == 1 {
-        return Refusal::Step { number: 14, steps };
-    }
-    Refusal::Step { number: 13, steps }
 }
 
 // ---- the stores
@@ -352,7 +218,7 @@ fn follow(
     let mut exponent = 0;
     let mut i = 0;
     while i < steps {
-        let next = choose(u, v, schedule[i], from, n);
+        let next = choices::choose(u, v, schedule[i], from, n);
         let action = next.action;
         advance(
             steps - i,
@@ -380,10 +246,10 @@ fn follow(
             &mut tally,
         );
         if tally[2] != 0 {
-            return End::Stopped(refusal(tally[2], i as u32));
+            return End::Stopped(steps::refusal(tally[2], i as u32));
         }
         from = next.offsets;
-        exponent += halves(action);
+        exponent += choices::halves(action);
         i += 1;
     }
     let used = Used {
@@ -436,10 +302,10 @@ pub fn run(
         (columns (now (level .exit)) (now (low .exit)) (now (high .exit)) (now (a .exit)) (now (b .exit)) (now (c .exit)) (now (d .exit))) r ⌝ }
 {
     if level.len() < 3 * n as usize {
-        return End::Stopped(refusal(1, 0));
+        return End::Stopped(steps::refusal(1, 0));
     }
     if a.len() < 2 {
-        return End::Stopped(refusal(1, 0));
+        return End::Stopped(steps::refusal(1, 0));
     }
     begin(
         schedule.len(),

@@ -1,5 +1,6 @@
 // A step along a schedule: the reduced diagram in one store times a gate, into the other store, with tables that follow its size.
 use gates::Rule;
+use miters::Refusal;
 use transitions::LEVELS;
 use transitions::NODE_HEADS;
 use transitions::SLOTS;
@@ -8,9 +9,12 @@ use transitions::VALUE_HEADS;
 use transitions::WIDTH;
 use transitions::ZERO;
 ghost use mathlib.Core.Path.{_≡_};
+ghost use mathlib.Core.Bool.{cond};
+ghost use lib.Dec.{eqb};
 ghost use mathlib.Core.List.{[], _∷_};
 ghost use Prim.Native.Nat.{_*_, _≤_, max};
 ghost use Rattle.diagrams.specs.Columns.{columns, entries-of, zero-ref, ValueColumns};
+ghost use Rattle.miters.specs.declared.Refusal.the-variants.{Step as at-step};
 ghost use Rattle.products.specs.Step.{Fresh};
 ghost use Rattle.products.specs.Step as product;
 ghost use Rattle.turns.specs.Work.{work};
@@ -245,4 +249,14 @@ pub fn take_step<'s>(
     if counts[2] == 0 {
         diagrams::publish(terminals, counts[1], a, b, c, d);
     }
+}
+
+// The refusal of a step: there was no room for its product, or a number of it lay outside the width.
+pub fn refusal(why: u32, steps: u32) -> Refusal
+    ensures { λ r. ⌜ r ≡ at-step (cond (eqb why 1) 14 13) steps ⌝ }
+{
+    if why == 1 {
+        return Refusal::Step { number: 14, steps };
+    }
+    Refusal::Step { number: 13, steps }
 }

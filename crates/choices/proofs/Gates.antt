@@ -1,0 +1,179 @@
+-- The gate of a step: its data by its code and its side, what stands at an offset, and the list that it is taken from.
+-- Assumes nothing.
+use mathlib.Core.Path.{_≡_, refl, sym, _∙_, ap, subst}
+use mathlib.Core.Bool.{Bool, true, false}
+use mathlib.Core.List.{List}
+use Prim.Native.Nat.{ℕ, _<_, _≤_}
+use native.Mathlib.Omega.{arith}
+use Rattle.gates.specs.declared.Rule.{Rule}
+use Rattle.gates.specs.declared.Decision.{Decision}
+use Rattle.gates.specs.declared.Decision.the-variants.{Known, Unknown}
+use Rattle.gates.specs.Gate.{X, Y, Z, H, S, S†, T, T†, CNOT, CZ, Gate, on, pair, Fits, inverse, halves}
+use Rattle.gates.specs.Rule.{decision, gate-rule, target}
+use Rattle.gates.proofs.Inverses.{inverse-fits}
+use Rattle.circuits.specs.declared.GateRead.{GateRead}
+use Rattle.circuits.specs.Reading.{gate}
+use Rattle.circuits.specs.Codes.{gate-code}
+use Rattle.circuits.specs.Answers.{control, gate-answer}
+use Rattle.circuits.proofs.Codes.{gate-decided}
+use Rattle.circuits.proofs.Remaining.{Remaining, remaining-next}
+use Rattle.transitions.specs.Prepare.{as-number}
+use Rattle.transitions.proofs.Plans.{Controls}
+use Rattle.steps.specs.Stepping.{Acts}
+use Rattle.choices.specs.declared.Offsets.{Offsets}
+use Rattle.choices.specs.declared.Taken.{Taken}
+use Rattle.choices.specs.declared.Next.{Next}
+use Rattle.choices.specs.Choosing.{Ruled, sided, Sided, Read, Takes, from-U, from-V, Lists, Chosen}
+
+-- ---- the data of a code
+
+module _ {d : Decision} (code : ℕ) (decided : d ≡ decision code) where
+  pub ruled-known : (rule : Rule) → d ≡ Known rule → Ruled code rule
+  ruled-known rule known other e = cc
+
+  pub ruled-unknown : (rule : Rule) → d ≡ Unknown → Ruled code rule
+  ruled-unknown rule unknown other e = cc
+
+gate-ruled : (code : ℕ) (rule : Rule) (g : Gate) → Ruled code rule → code ≡ gate-code g → rule ≡ gate-rule g
+gate-ruled code rule g ruled e = ruled (gate-rule g) (ap decision e ∙ gate-decided g)
+
+-- the code of the inverse
+inverse-code : (g : Gate) → gate-rule g .inverse ≡ gate-code (inverse g)
+inverse-code (on X q) = refl
+inverse-code (on Y q) = refl
+inverse-code (on Z q) = refl
+inverse-code (on H q) = refl
+inverse-code (on S q) = refl
+inverse-code (on S† q) = refl
+inverse-code (on T q) = refl
+inverse-code (on T† q) = refl
+inverse-code (pair CNOT p q) = refl
+inverse-code (pair CZ p q) = refl
+
+module _ (side code : ℕ) (rule : Rule) (ruled : Ruled code rule) where
+  pub sided-left : side ≡ 0 → Sided side code rule
+  sided-left is-left false g s e = gate-ruled code rule g ruled e
+  sided-left is-left true g s e = absurd (omega arith)
+
+  pub sided-right : (side ≡ 0 → ⊥) → (undone : Rule) → Ruled (rule .inverse) undone → Sided side code undone
+  sided-right not-left undone inverse-ruled false g s e = absurd (not-left s)
+  sided-right not-left undone inverse-ruled true g s e =
+      gate-ruled (rule .inverse) undone (inverse g) inverse-ruled
+      (ap (λ (x : Rule). x .inverse) (gate-ruled code rule g ruled e) ∙ inverse-code g)
+
+-- what a gate adds to the exponent: 1 if it mixes
+pub gate-halves : (g : Gate) → as-number (gate-rule g .mixes) ≡ halves g
+gate-halves (on X q) = refl
+gate-halves (on Y q) = refl
+gate-halves (on Z q) = refl
+gate-halves (on H q) = refl
+gate-halves (on S q) = refl
+gate-halves (on S† q) = refl
+gate-halves (on T q) = refl
+gate-halves (on T† q) = refl
+gate-halves (pair CNOT p q) = refl
+gate-halves (pair CZ p q) = refl
+
+pub halves-few : (g : Gate) → halves g ≤ 1
+halves-few (on X q) = omega arith
+halves-few (on Y q) = omega arith
+halves-few (on Z q) = omega arith
+halves-few (on H q) = omega arith
+halves-few (on S q) = omega arith
+halves-few (on S† q) = omega arith
+halves-few (on T q) = omega arith
+halves-few (on T† q) = omega arith
+halves-few (pair k p q) = omega arith
+
+-- ---- a gate that was read, for its side
+
+sided-fits : (n : ℕ) (right : Bool) (g : Gate) → Fits n g → Fits n (sided right g)
+sided-fits n false g fits = fits
+sided-fits n true g fits = inverse-fits n g fits
+
+sided-controls : (right : Bool) (g : Gate) (c : ℕ) → c ≡ control g → Controls (sided right g) c
+sided-controls false (on k q) c e = tt
+sided-controls false (pair k p q) c e = e
+sided-controls true (on k q) c e = tt
+sided-controls true (pair k p q) c e = e
+
+sided-target : (right : Bool) (g : Gate) → target g ≡ target (sided right g)
+sided-target false g = refl
+sided-target true (on k q) = refl
+sided-target true (pair k p q) = refl
+
+control-small : (n : ℕ) (g : Gate) → n ≤ 16 → Fits n g → control g < 65536
+control-small n (on k q) few fits = omega arith
+control-small n (pair k p q) few fits = omega (arith, fits .0)
+
+module _ {answer : GateRead} (bytes : List ℕ) (at n side : ℕ) (answered : answer ≡ gate-answer (gate n bytes at)) where
+  pub gate-taken : {code c t next : ℕ} (rule : Rule) → answer ≡ GateRead.Gate code c t next → Sided side code rule
+      → Read bytes at n side (record { action = record { rule = rule; side = side; control = c; target = t }; next = next })
+  gate-taken {code} {c} {t} {next} rule is-gate rules right g next′ s few fits reads =
+      let same : GateRead.Gate code c t next ≡ GateRead.Gate (gate-code g) (control g) (target g) next′ =
+      sym is-gate ∙ answered ∙ ap gate-answer reads in
+      let code-is : code ≡ gate-code g = cc in
+      let control-is : c ≡ control g = cc in
+      let target-is : t ≡ target g = cc in
+      let next-is : next ≡ next′ = cc in (
+        record {
+          fits = sided-fits n right g fits;
+          rule = rules right g s code-is;
+          side = s;
+          control = sided-controls right g c control-is;
+          small-control = omega (arith, control-is, control-small n g few fits);
+          target = target-is ∙ sided-target right g;
+        },
+        next-is,
+      )
+
+  -- a refusal stands for no gate
+  pub none-taken : {why : _} (taken : Taken) → answer ≡ GateRead.Refused why → Read bytes at n side taken
+  none-taken taken is-refusal right g next′ s few fits reads =
+      let clash : _≡_ {A = ℕ} 0 1 = let same = sym is-refusal ∙ answered ∙ ap gate-answer reads in cc in
+      absurd (omega arith)
+
+-- ---- the list that a step takes its gate from
+
+module _ (u v : List ℕ) (n : ℕ) (offsets : Offsets) (taken : Taken) where
+  abbrev after-U : Next
+  after-U = record { action = taken .action; offsets = record { first = taken .next; second = offsets .second } }
+
+  abbrev after-V : Next
+  after-V = record { action = taken .action; offsets = record { first = offsets .first; second = taken .next } }
+
+  from-first : {step : ℕ} {us vs us′ vs′ : List Gate} {right : Bool} {g : Gate} → Takes step us vs right g us′ vs′ → step ≡ 0
+      → Read u (offsets .first) n 0 taken → n ≤ 16 → Lists n u v offsets us vs → Acts n right g (taken .action) × Lists n u v (after-U .offsets) us′ vs′
+  from-first (from-U {g = g} {us = us}) e reads few lists =
+      let next = remaining-next n u (offsets .first) g us (lists .gates-u) in
+      let r = reads false g (next .next) refl few (lists .fit-u .0) (next .gate-here) in (
+        r .0,
+        record {
+          gates-u = subst (λ (at : ℕ). Remaining n u at us) (sym (r .1)) (next .others);
+          gates-v = lists .gates-v;
+          fit-u = lists .fit-u .1;
+          fit-v = lists .fit-v;
+        },
+      )
+  from-first from-V e reads few lists = absurd (omega arith)
+
+  from-second : {step : ℕ} {us vs us′ vs′ : List Gate} {right : Bool} {g : Gate} → Takes step us vs right g us′ vs′ → (step ≡ 0 → ⊥)
+      → Read v (offsets .second) n 1 taken → n ≤ 16 → Lists n u v offsets us vs → Acts n right g (taken .action) × Lists n u v (after-V .offsets) us′ vs′
+  from-second from-U e reads few lists = absurd (e refl)
+  from-second (from-V {g = g} {vs = vs}) e reads few lists =
+      let next = remaining-next n v (offsets .second) g vs (lists .gates-v) in
+      let r = reads true g (next .next) refl few (lists .fit-v .0) (next .gate-here) in (
+        r .0,
+        record {
+          gates-u = lists .gates-u;
+          gates-v = subst (λ (at : ℕ). Remaining n v at vs) (sym (r .1)) (next .others);
+          fit-u = lists .fit-u;
+          fit-v = lists .fit-v .1;
+        },
+      )
+
+  pub chosen-U : (step : ℕ) → step ≡ 0 → Read u (offsets .first) n 0 taken → Chosen u v step offsets n after-U
+  chosen-U step e reads us vs us′ vs′ right g takes few lists = from-first takes e reads few lists
+
+  pub chosen-V : (step : ℕ) → (step ≡ 0 → ⊥) → Read v (offsets .second) n 1 taken → Chosen u v step offsets n after-V
+  chosen-V step e reads us vs us′ vs′ right g takes few lists = from-second takes e reads few lists

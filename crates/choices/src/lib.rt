@@ -1,0 +1,123 @@
+// The gate of a step: the next of the list that the schedule names, as it stands there, for the left, or inverted, for the right.
+use circuits::GateRead;
+use gates::Decision;
+use gates::Phases;
+use gates::Rule;
+use steps::Action;
+ghost use mathlib.Core.Path.{_≡_};
+ghost use Rattle.transitions.specs.Prepare.{as-number};
+ghost use Rattle.choices.specs.Choosing.{Ruled, Sided, Read, Chosen};
+
+// Where the gates of the two lists are read next.
+pub struct Offsets {
+    pub first: usize,
+    pub second: usize,
+}
+
+// A gate for a side, and the offset after it.
+struct Taken {
+    action: Action,
+    next: usize,
+}
+
+// The gate of a step, and where the gates of the two lists are read after it.
+pub struct Next {
+    pub action: Action,
+    pub offsets: Offsets,
+}
+
+// The data of a code that is known; any data of another.
+fn rule_of(code: u32) -> Rule
+    ensures { λ r. ⌜ Ruled code r ⌝ }
+{
+    match gates::decide(code) {
+        Decision::Known(rule) => rule,
+        Decision::Unknown => Rule {
+            qubits: 0,
+            mixes: false,
+            flips: false,
+            left: Phases { zero: 0, one: 0 },
+            right: Phases { zero: 0, one: 0 },
+            inverse: 0,
+        },
+    }
+}
+
+// The data of a gate put on the left, side 0, or of its inverse put on the right, side 1.
+fn rule_on(side: u32, code: u32) -> Rule
+    ensures { λ r. ⌜ Sided side code r ⌝ }
+{
+    let rule = rule_of(code);
+    if side == 0 {
+        return rule;
+    }
+    rule_of(rule.inverse)
+}
+
+// The gate that stands at an offset of a list on n qubits, for the left or, inverted, for the right.
+fn take(bytes: &[u8], at: usize, n: u32, side: u32) -> Taken
+    ensures { λ r. ⌜ Read (now (bytes .entry)) at n side r ⌝ }
+{
+    match circuits::read_gate(bytes, at, n) {
+        GateRead::Gate {
+            code,
+            control,
+            target,
+            next,
+        } => Taken {
+            action: Action {
+                rule: rule_on(side, code),
+                side,
+                control,
+                target,
+            },
+            next,
+        },
+        GateRead::Refused(_) => Taken {
+            action: Action {
+                rule: rule_of(0),
+                side,
+                control: 0,
+                target: 0,
+            },
+            next: at,
+        },
+    }
+}
+
+// The gate of a step: the next of U for the left, or the next of V, inverted, for the right.
+pub fn choose(u: &[u8], v: &[u8], step: u8, offsets: Offsets, n: u32) -> Next
+    ensures { λ r. ⌜ Chosen (now (u .entry)) (now (v .entry)) step offsets n r ⌝ }
+{
+    if step == 0 {
+        let taken = take(u, offsets.first, n, 0);
+        let action = taken.action;
+        return Next {
+            action,
+            offsets: Offsets {
+                first: taken.next,
+                second: offsets.second,
+            },
+        };
+    }
+    let taken = take(v, offsets.second, n, 1);
+    let action = taken.action;
+    Next {
+        action,
+        offsets: Offsets {
+            first: offsets.first,
+            second: taken.next,
+        },
+    }
+}
+
+// What a step adds to the exponent.
+pub fn halves(action: Action) -> u32
+    ensures { λ r. ⌜ r ≡ as-number (action .rule .mixes) ⌝ }
+{
+    let rule = action.rule;
+    if rule.mixes {
+        return 1;
+    }
+    0
+}
