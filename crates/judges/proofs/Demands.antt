@@ -179,6 +179,7 @@ demand-2 u v schedule w first second unrefused =
       equal-iff = subst (λ (o : Outcome). ((z : Entry) × (o .report .verdict ≡ equal-with z)) ↔ Equal n us vs) (sym is) (verdict-equal-iff n us vs fit);
       says = subst (λ (o : Outcome). Says n us vs (o .report .verdict)) (sym is) (verdict-says n us vs fit);
       exponent-is = ap (λ (o : Outcome). o .report .exponent) is;
+      steps-are = ap (λ (o : Outcome). o .report .steps) is;
       one-factor = λ z e turns.
           ap (λ (k : ℕ). z ⊗ √2^ k) (ap (λ (o : Outcome). o .report .exponent) is ∙ miter-power n us vs) ∙ turns-unique n us vs fit z e turns;
     }

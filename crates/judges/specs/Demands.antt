@@ -4,7 +4,7 @@
 use mathlib.Core.Path.{_≡_}
 use mathlib.Core.Logic.{_↔_, _⊎_}
 use mathlib.Core.List.{List}
-use Prim.Native.Nat.{ℕ}
+use Prim.Native.Nat.{ℕ, _+_}
 use lib.ListN.{length}
 use Rattle.algebra.specs.declared.Entry.{Entry}
 use Rattle.algebra.specs.Entry.{𝟘, _⊗_, √2^}
@@ -74,6 +74,7 @@ pub record Demand-2 (u v : List ℕ) (o : Outcome) : Type 0 where
   pub equal-iff : ((z : Entry) × (o .report .verdict ≡ equal-with z)) ↔ Equal (c .qubits) (c .gates) (d .gates)
   pub says : Says (c .qubits) (c .gates) (d .gates) (o .report .verdict)
   pub exponent-is : o .report .exponent ≡ miter (c .qubits) (c .gates) (d .gates) .power
+  pub steps-are : o .report .steps ≡ length (c .gates) + length (d .gates)
   -- a number z over √2 to the power e that does it is the corner over √2 to the report's exponent
   pub one-factor : (z : Entry) (e : ℕ) → Turns (c .qubits) (c .gates) (d .gates) z e
       → z ⊗ √2^ (o .report .exponent) ≡ corner (c .qubits) (miter (c .qubits) (c .gates) (d .gates) .entries) ⊗ √2^ e

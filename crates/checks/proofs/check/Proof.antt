@@ -19,7 +19,9 @@ call-requires-2 c κs = search needs
 
 returns-2 : tie.Need-returns-2
 unfolding checks
-returns-2 c = rw (le-leb _ _ (c .before .before .if1 .left), lt-leb _ _ (c .before .if2 .taken)) (c .call2 .ensures)
+returns-2 c =
+    let w = c .before .before .before .before .before .before .args .w in
+    rw (le-leb _ _ (c .before .before .if1 .left), lt-leb w 32 (c .before .if2 .taken)) (c .call2 .ensures)
 
 fit-both-requires : tie.Need-fit-both-requires
 fit-both-requires c κs = search needs
