@@ -1,5 +1,5 @@
 -- What the call that judges two gate lists answers, for every input: the checks in the paper's order, then the run. Definitions
--- only; the three demands on it are in proofs/Demands.antt.
+-- only; the three demands on it are in specs/Demands.antt.
 use mathlib.Core.List.{List}
 use Prim.Native.Nat.{ℕ}
 use lib.ListN.{length}

@@ -26,8 +26,7 @@ use Rattle.choices.specs.Choosing.{Chosen}
 use Rattle.runs.specs.Inside.{current, used-in, Room, Begun, Started, Followed}
 use Rattle.runs.proofs.Stores.{Kept, kept-all, kept-then, long-kept, Tables, TablesKept, tables-kept-all, tables-kept-then, scratch-kept}
 use Rattle.runs.proofs.Stores.{current-next, current-long, start-source, no-nodes, no-values, room-followed}
-use Rattle.runs.proofs.Reached.{fits-fitting, fitting-length}
-use Rattle.runs.proofs.Reached.{reached-start}
+use Rattle.runs.proofs.Reached.{fits-fitting, fitting-length, reached-start}
 use Rattle.runs.proofs.Turns.{Running, ran-stopped, turn-task, turn-runs, turn-stops, run-ends}
 
 -- ---- the loop
@@ -57,24 +56,27 @@ module _ (u v schedule : List ℕ) (n : ℕ) (offsets₀ : Offsets) (sizes : Siz
   started : (s : Starts) (tally : List ℕ) → getD tally 0 0 ≡ 3 * n → getD tally 1 0 ≡ 2
       → Running (lent-of s) n u v schedule (whole-of s) offsets₀ 0 0 (used-in tally) (current (length schedule - 0) first₀ second₀)
   unfolding start
-  started s tally nodes values = let task = s .task in let same : length schedule ≡ length schedule - 0 = omega arith in record {
-    us = task .us;
-    vs = task .vs;
-    M = start;
-    within = omega arith;
-    lists = record { gates-u = task .gates-u; gates-v = task .gates-v; fit-u = task .within-u .all-fit; fit-v = task .within-v .all-fit };
-    fitting = fits-fitting (task .us) (task .vs) schedule (task .fitting);
-    reached = reached-start n;
-    ends = refl;
-    power = refl;
-    few = omega arith;
-    holds = record {
-      holds = subst (λ (k : ℕ). Holds (task .N) (task .L) (diagram n (start .entries) .store) (current k first₀ second₀)) same (s .identity .holds);
-      nodes = nodes ∙ s .identity .nodes;
-      values = values ∙ s .identity .values;
-      root = s .identity .root;
-    };
-  }
+  started s tally nodes values =
+      let task = s .task in
+      let same : length schedule ≡ length schedule - 0 = omega arith in
+      record {
+        us = task .us;
+        vs = task .vs;
+        M = start;
+        within = omega arith;
+        lists = record { gates-u = task .gates-u; gates-v = task .gates-v; fit-u = task .within-u .all-fit; fit-v = task .within-v .all-fit };
+        fitting = fits-fitting (task .us) (task .vs) schedule (task .fitting);
+        reached = reached-start n;
+        ends = refl;
+        power = refl;
+        few = omega arith;
+        holds = record {
+          holds = subst (λ (k : ℕ). Holds (task .N) (task .L) (diagram n (start .entries) .store) (current k first₀ second₀)) same (s .identity .holds);
+          nodes = nodes ∙ s .identity .nodes;
+          values = values ∙ s .identity .values;
+          root = s .identity .root;
+        };
+      }
 
   pub turning-starts : (tally : List ℕ) → getD tally 0 0 ≡ 3 * n → getD tally 1 0 ≡ 2 → Turning offsets₀ 0 0 tally first₀ second₀ T₀
   turning-starts tally nodes values = record {

@@ -27,13 +27,12 @@ use Rattle.steps.specs.Stepping as stepping
 use Rattle.choices.specs.declared.Offsets.{Offsets}
 use Rattle.choices.specs.declared.Next.{Next}
 use Rattle.runs.specs.declared.End.the-variants.{Done, Stopped}
-use Rattle.runs.specs.Running.{Task, Ran, ran, refused}
+use Rattle.runs.specs.Running.{Ran, ran, refused}
 use Rattle.choices.specs.Choosing.{Lists, Chosen}
 use Rattle.runs.specs.Inside.{current, used-in}
 use Rattle.choices.proofs.Gates.{gate-halves, halves-few}
 use Rattle.runs.proofs.Stores.{Tables, ScratchIn}
-use Rattle.runs.proofs.Reached.{Fitting, Turn, turn, placed, takes-steps}
-use Rattle.runs.proofs.Reached.{Reached, reached-next, reached-root}
+use Rattle.runs.proofs.Reached.{Fitting, Turn, turn, placed, takes-steps, Reached, reached-next, reached-root}
 
 -- ---- between two steps
 
