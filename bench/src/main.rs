@@ -1,0 +1,6 @@
+mod circuit;
+mod hashed;
+mod random;
+mod report;
+mod schedule;
+fn main() {}
