@@ -214,7 +214,10 @@ mod tests {
     #[test]
     fn joined_lists_split_again() {
         assert_eq!(join_lists(&[1, 0], &[1, 0]), [2, 1, 0, 1, 0]);
-        assert_eq!(split_lists(&[2, 1, 0, 1, 0]), Some((&[1, 0][..], &[1, 0][..])));
+        assert_eq!(
+            split_lists(&[2, 1, 0, 1, 0]),
+            Some((&[1, 0][..], &[1, 0][..]))
+        );
         assert_eq!(split_lists(&[9, 1, 0]), None);
     }
 }

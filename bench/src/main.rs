@@ -1,6 +1,118 @@
+//! The benchmark: the proved library beside a plain hash-map implementation, over circuits made by seed.
+//!
+//! `--check` compares reports and stores without timing. `GANNETROPE_VERDICT` names the verdict program; `REFERENCE` and
+//! `INPUTS` a reference program and a folder of inputs to time it on. It exits with 1 if anything differs.
+
+mod agreement;
 mod circuit;
+mod comparison;
+mod families;
 mod hashed;
+mod library;
+mod pair;
+mod program;
 mod random;
+mod reference;
 mod report;
+mod rewrite;
 mod schedule;
-fn main() {}
+mod timing;
+
+use families::Case;
+use library::StoreSize;
+use pair::Pair;
+use reference::Reference;
+use std::io;
+use std::process::ExitCode;
+use std::thread;
+
+/// The library's tables for large stores take about 4.7 MB of stack.
+const STACK: usize = 16 << 20;
+
+fn main() -> ExitCode {
+    let check_only = match std::env::args().nth(1).as_deref() {
+        None => false,
+        Some("--check") => true,
+        Some(other) => {
+            eprintln!("unknown argument '{other}': only --check is known");
+            return ExitCode::from(2);
+        }
+    };
+    let work = move || if check_only { check() } else { measure() };
+    let thread = thread::Builder::new().stack_size(STACK).spawn(work);
+    match thread.expect("a thread").join().expect("no panic") {
+        Ok(differences) => conclude(&differences),
+        Err(error) => {
+            eprintln!("{error}");
+            ExitCode::FAILURE
+        }
+    }
+}
+
+fn conclude(differences: &[String]) -> ExitCode {
+    for difference in differences {
+        println!("MISMATCH {difference}");
+    }
+    match differences {
+        [] => ExitCode::SUCCESS,
+        _ => ExitCode::FAILURE,
+    }
+}
+
+/// Judges every case by everything that is there, once and at both store sizes.
+fn check() -> io::Result<Vec<String>> {
+    let mut differences = Vec::new();
+    let program = program::path();
+    let cases = families::all();
+    for case in &cases {
+        let mut found = Vec::new();
+        for size in [StoreSize::SMALL, StoreSize::LARGE] {
+            found.extend(comparison::check_at(case, size));
+        }
+        if let Some(program) = &program {
+            let pair = Pair::new(&case.first, &case.second);
+            found.extend(program::check(program, &pair)?);
+        }
+        differences.extend(found.iter().map(|difference| described(case, difference)));
+    }
+    println!("{} pairs, {} differences", cases.len(), differences.len());
+    Ok(differences)
+}
+
+/// Times everything and prints the tables.
+fn measure() -> io::Result<Vec<String>> {
+    let mut differences = Vec::new();
+    measure_families(&mut differences);
+    match Reference::from_environment() {
+        Some(reference) => reference.compare(&mut differences)?,
+        None => println!("no reference program: REFERENCE and INPUTS are not both set\n"),
+    }
+    match program::path() {
+        None => println!("no verdict program"),
+        Some(program) => match program::measure(&program)? {
+            Ok(line) => println!("{line}"),
+            Err(difference) => differences.push(difference),
+        },
+    }
+    Ok(differences)
+}
+
+fn measure_families(differences: &mut Vec<String>) {
+    println!("{}", comparison::heading());
+    let mut rows = Vec::new();
+    for case in families::all() {
+        match comparison::measure(&case) {
+            Ok(row) => rows.push(row),
+            Err(difference) => differences.push(described(&case, &difference)),
+        }
+    }
+    println!("\n{}", comparison::summary(&rows));
+}
+
+fn described(case: &Case, difference: &str) -> String {
+    let (qubits, gates) = (case.first.qubits, case.first.gates.len());
+    format!(
+        "{}, {}, {qubits} qubits, {gates} gates: {difference}",
+        case.family, case.second_is
+    )
+}

@@ -19,8 +19,15 @@ impl fmt::Display for Entry {
 
 #[derive(Clone, Copy, PartialEq, Eq, Debug)]
 pub enum Verdict {
-    Equal { factor: Entry },
-    Different { row: u64, column: u64, entry: Entry, corner: Entry },
+    Equal {
+        factor: Entry,
+    },
+    Different {
+        row: u64,
+        column: u64,
+        entry: Entry,
+        corner: Entry,
+    },
     Refused(Refusal),
 }
 

@@ -107,7 +107,11 @@ fn widths() {
 fn store_sizes() {
     assert_eq!(one_qubit_line(&[], &[], sizes(2, 2)), "refused 14 steps 0");
     assert_eq!(one_qubit_line(&[T], &[], sizes(3, 2)), "refused 14 steps 0");
-    for (first, limits) in [(&[][..], sizes(3, 2)), (&[H, H], sizes(3, 3)), (&[T], sizes(3, 3))] {
+    for (first, limits) in [
+        (&[][..], sizes(3, 2)),
+        (&[H, H], sizes(3, 3)),
+        (&[T], sizes(3, 3)),
+    ] {
         assert!(!one_qubit_line(first, &[], limits).starts_with("refused"));
     }
 }
