@@ -2,11 +2,12 @@
 
 use crate::agreement;
 use crate::families::{Case, Growth};
-use crate::hashed::Work;
+use crate::hashed::{Judged, Work};
 use crate::library::{Lent, StoreSize};
 use crate::pair::Pair;
 use crate::schedule::proportional;
 use crate::timing::{fastest, geometric_mean, in_turns, microseconds, ratio};
+use std::collections::BTreeMap;
 use std::hint::black_box;
 use std::time::Duration;
 
@@ -37,7 +38,16 @@ pub fn check_at(case: &Case, size: StoreSize) -> Option<String> {
     }
     let mut lent = Lent::new(size);
     pair.judge_by_library(&mut lent);
-    agreement::difference(&lent, &pair.judge_by_hash_maps(size))
+    difference(case, &lent, &pair.judge_by_hash_maps(size))
+}
+
+/// What differs between the two, or from what the case was made to be.
+fn difference(case: &Case, lent: &Lent, judged: &Judged) -> Option<String> {
+    let expected = if case.is_equal { "equal" } else { "different" };
+    let report = judged.report;
+    let is_unexpected = !report.is_full() && report.word() != expected;
+    let unexpected = is_unexpected.then(|| format!("{report}, but made to be {expected}"));
+    agreement::difference(lent, judged).or(unexpected)
 }
 
 /// Times the case and prints its line, or gives what differs.
@@ -50,7 +60,7 @@ pub fn measure(case: &Case) -> Result<Row, String> {
         || fastest(|| pair.judge_by_library(&mut lent)),
         || fastest(|| drop(black_box(pair.judge_by_hash_maps(size)))),
     );
-    if let Some(difference) = agreement::difference(&lent, &judged) {
+    if let Some(difference) = difference(case, &lent, &judged) {
         return Err(difference);
     }
     let row = Row {
@@ -64,6 +74,7 @@ pub fn measure(case: &Case) -> Result<Row, String> {
     Ok(row)
 }
 
+/// What the columns are: `ns/node` is the library's time by the sum over the steps of the nodes of the product.
 pub fn heading() -> String {
     format!(
         "{:<18} {:<11} {:>6} {:>9} {:<9} {:>6} {:>11} {:>8} {:>11} {:>6}",
@@ -74,7 +85,7 @@ pub fn heading() -> String {
         "verdict",
         "peak",
         "proved us",
-        "ns/n·s",
+        "ns/node",
         "hashmap us",
         "ratio"
     )
@@ -100,37 +111,58 @@ fn line(case: &Case, verdict: &str, row: &Row) -> String {
 /// The summary lines: the mean ratio, and how the time per node and step grows.
 pub fn summary(rows: &[Row]) -> String {
     let ratios: Vec<f64> = rows.iter().map(Row::ratio).collect();
-    let worst = ratios.iter().copied().fold(0.0, f64::max);
-    let mut text = match geometric_mean(&ratios) {
-        None => return "nothing was measured\n".to_string(),
-        Some(mean) => format!(
-            "ratio to hash maps: geometric mean {mean:.3}, largest {worst:.3}, {} pairs\n",
-            rows.len()
-        ),
+    let Some(mean) = geometric_mean(&ratios) else {
+        return "nothing was measured\n".to_string();
     };
-    text += "growth with nodes, ns per node and step:\n";
-    text += &growth_lines(rows, |row| matches!(row.growth, Some(Growth::Nodes(_))));
-    text += "growth with gates, ns per node and step:\n";
-    text += &growth_lines(rows, |row| matches!(row.growth, Some(Growth::Gates(_))));
+    let largest = ratios.iter().copied().fold(0.0, f64::max);
+    let count = rows.len();
+    format!(
+        "ratio to hash maps: geometric mean {mean:.3}, largest {largest:.3}, {count} pairs\n{}{}",
+        growth_with_nodes(rows),
+        growth_with_gates(rows)
+    )
+}
+
+fn growth_with_nodes(rows: &[Row]) -> String {
+    let mut text = String::from("growth with nodes, ns per node and step:\n");
+    let mut times = Vec::new();
+    for row in rows {
+        if let Some(Growth::Nodes(nodes)) = row.growth {
+            let time = row.nanoseconds_per_node_and_step();
+            let (peak, qubits) = (row.work.peak_nodes, row.qubits);
+            text += &format!("  {nodes:>6} nodes (peak {peak}, {qubits} qubits): {time:.1}\n");
+            times.push(time);
+        }
+    }
+    text + &format!("  most / least: {:.2}\n", most_by_least(&times))
+}
+
+fn growth_with_gates(rows: &[Row]) -> String {
+    let mut by_qubits: BTreeMap<u8, Vec<(usize, f64)>> = BTreeMap::new();
+    for row in rows {
+        if let Some(Growth::Gates(gates)) = row.growth {
+            let point = (gates, row.nanoseconds_per_node_and_step());
+            by_qubits.entry(row.qubits).or_default().push(point);
+        }
+    }
+    let mut text = String::from("growth with gates, ns per node and step:\n");
+    for (qubits, points) in by_qubits {
+        let shown: Vec<String> = points
+            .iter()
+            .map(|(gates, time)| format!("{gates} gates {time:.1}"))
+            .collect();
+        let times: Vec<f64> = points.iter().map(|point| point.1).collect();
+        let spread = most_by_least(&times);
+        text += &format!(
+            "  {qubits:>2} qubits: {}; most / least: {spread:.2}\n",
+            shown.join(", ")
+        );
+    }
     text
 }
 
-fn growth_lines(rows: &[Row], wanted: impl Fn(&Row) -> bool) -> String {
-    let chosen: Vec<&Row> = rows.iter().filter(|row| wanted(row)).collect();
-    let times = || chosen.iter().map(|row| row.nanoseconds_per_node_and_step());
-    let least = times().fold(f64::INFINITY, f64::min);
-    let most = times().fold(0.0, f64::max);
-    let mut text: String = chosen.iter().map(|row| growth_line(row)).collect();
-    text += &format!("  most / least {:.2}\n", most / least);
-    text
-}
-
-fn growth_line(row: &Row) -> String {
-    let size = match row.growth {
-        Some(Growth::Nodes(nodes)) => format!("{nodes:>6} nodes (peak {})", row.work.peak_nodes),
-        Some(Growth::Gates(gates)) => format!("{gates:>6} gates in each list"),
-        None => String::new(),
-    };
-    let time = row.nanoseconds_per_node_and_step();
-    format!("  {size}, {} qubits: {time:.1}\n", row.qubits)
+fn most_by_least(times: &[f64]) -> f64 {
+    let most = times.iter().copied().fold(0.0, f64::max);
+    let least = times.iter().copied().fold(f64::INFINITY, f64::min);
+    most / least
 }

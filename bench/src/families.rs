@@ -9,6 +9,7 @@ pub struct Case {
     pub family: &'static str,
     /// How the second list came about.
     pub second_is: &'static str,
+    pub is_equal: bool,
     pub first: Circuit,
     pub second: Circuit,
     pub growth: Option<Growth>,
@@ -54,14 +55,18 @@ fn pairs(
     random: &mut Random,
 ) -> [Case; 2] {
     let different = changed(&equal, random);
-    let case = |second_is, second| Case {
+    let case = |second_is, second, is_equal| Case {
         family,
         second_is,
+        is_equal,
         first: first.clone(),
         second,
         growth: None,
     };
-    [case(equal_is, equal), case("one changed", different)]
+    [
+        case(equal_is, equal, true),
+        case("one changed", different, false),
+    ]
 }
 
 fn random_gate(qubits: u8, codes: &[Code], random: &mut Random) -> Gate {
@@ -241,6 +246,7 @@ fn blow_up(wanted: BlowUp) -> Case {
     Case {
         family: "blow-up",
         second_is: "unrelated",
+        is_equal: false,
         first: list(wanted.seed),
         second: list(!wanted.seed),
         growth: Some(Growth::Nodes(wanted.nodes)),

@@ -9,6 +9,7 @@ mod comparison;
 mod families;
 mod hashed;
 mod library;
+mod machine;
 mod pair;
 mod program;
 mod random;
@@ -81,6 +82,7 @@ fn check() -> io::Result<Vec<String>> {
 
 /// Times everything and prints the tables.
 fn measure() -> io::Result<Vec<String>> {
+    println!("machine: {}\n", machine::description());
     let mut differences = Vec::new();
     measure_families(&mut differences);
     match Reference::from_environment() {

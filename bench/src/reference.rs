@@ -1,11 +1,11 @@
 //! The proved library beside a reference program, on files of the verdict program's input.
 //!
 //! The program takes `-r REPETITIONS -N NODES -L VALUES FILE` and prints a line with `us MEDIAN min FASTEST` in microseconds;
-//! where it also prints `steps S`, `nodes N` and `values L` of an answered pair, those are compared.
+//! where it also prints `steps S`, `nodes N` and `values L`, those are compared.
 
 use crate::library::{Lent, StoreSize};
 use crate::pair::Pair;
-use crate::report::Report;
+use crate::report::{Report, Verdict};
 use crate::timing::{fastest, geometric_mean, in_turns, microseconds, ratio, LEAST_TURN};
 use std::collections::BTreeMap;
 use std::fs;
@@ -144,17 +144,17 @@ fn field<'a>(line: &'a str, key: &str) -> Option<&'a str> {
     words.get(at + 1).copied()
 }
 
-/// What the reference's line says otherwise of an answered pair.
+/// What the reference's line says otherwise: the steps, and of an answered pair the nodes and values.
 fn disagreement(line: &str, report: &Report) -> Option<String> {
-    if report.is_refused() {
-        return None;
-    }
-    let expected = [
-        ("steps", report.steps),
-        ("nodes", report.nodes),
-        ("values", report.values),
-    ];
-    expected.iter().find_map(|&(key, number)| {
+    let expected = match report.verdict {
+        Verdict::Refused(refusal) => vec![("steps", refusal.steps)],
+        _ => vec![
+            ("steps", report.steps),
+            ("nodes", report.nodes),
+            ("values", report.values),
+        ],
+    };
+    expected.into_iter().find_map(|(key, number)| {
         let found = field(line, key)?;
         (found != number.to_string()).then(|| format!("{key} {found}"))
     })
