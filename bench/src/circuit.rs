@@ -109,6 +109,9 @@ impl Circuit {
         let mut reader = Reader { bytes };
         let qubits = u8::try_from(reader.number()?).ok()?;
         let count = reader.number()?;
+        if !(1..=16).contains(&qubits) || count > 4096 {
+            return None;
+        }
         let gates = (0..count)
             .map(|_| reader.gate(qubits))
             .collect::<Option<Vec<Gate>>>()?;
@@ -167,7 +170,7 @@ impl Reader<'_> {
             None
         };
         let target = self.qubit(qubits)?;
-        Some(Gate {
+        (control != Some(target)).then_some(Gate {
             code,
             control,
             target,

@@ -2,10 +2,9 @@
 
 use crate::agreement;
 use crate::families::{Case, Growth};
-use crate::hashed::{Judged, Work};
+use crate::hashed::Work;
 use crate::library::{Lent, StoreSize};
 use crate::pair::Pair;
-use crate::schedule::proportional;
 use crate::timing::{fastest, geometric_mean, in_turns, microseconds, ratio};
 use std::collections::BTreeMap;
 use std::hint::black_box;
@@ -30,26 +29,6 @@ impl Row {
     }
 }
 
-/// Judges the case once by each at one size; gives what differs.
-pub fn check_at(case: &Case, size: StoreSize) -> Option<String> {
-    let pair = Pair::new(&case.first, &case.second);
-    if pair.schedule() != proportional(pair.gates.0, pair.gates.1) {
-        return Some("the schedules differ".to_string());
-    }
-    let mut lent = Lent::new(size);
-    pair.judge_by_library(&mut lent);
-    difference(case, &lent, &pair.judge_by_hash_maps(size))
-}
-
-/// What differs between the two, or from what the case was made to be.
-fn difference(case: &Case, lent: &Lent, judged: &Judged) -> Option<String> {
-    let expected = if case.is_equal { "equal" } else { "different" };
-    let report = judged.report;
-    let is_unexpected = !report.is_full() && report.word() != expected;
-    let unexpected = is_unexpected.then(|| format!("{report}, but made to be {expected}"));
-    agreement::difference(lent, judged).or(unexpected)
-}
-
 /// Times the case and prints its line, or gives what differs.
 pub fn measure(case: &Case) -> Result<Row, String> {
     let pair = Pair::new(&case.first, &case.second);
@@ -60,8 +39,9 @@ pub fn measure(case: &Case) -> Result<Row, String> {
         || fastest(|| pair.judge_by_library(&mut lent)),
         || fastest(|| drop(black_box(pair.judge_by_hash_maps(size)))),
     );
-    if let Some(difference) = difference(case, &lent, &judged) {
-        return Err(difference);
+    let difference = agreement::difference(&lent, &judged);
+    if let Some(difference) = difference.or(case.unlike_made(&judged.report)) {
+        return Err(format!("{}: {difference}", case.name()));
     }
     let row = Row {
         growth: case.growth,

@@ -2,6 +2,7 @@
 
 use crate::circuit::{Circuit, Code, Gate};
 use crate::random::Random;
+use crate::report::Report;
 use crate::rewrite::{changed, inverted, reordered, rewritten};
 
 /// A pair of lists, and what it shows.
@@ -13,6 +14,20 @@ pub struct Case {
     pub first: Circuit,
     pub second: Circuit,
     pub growth: Option<Growth>,
+}
+
+impl Case {
+    pub fn name(&self) -> String {
+        let (qubits, gates) = (self.first.qubits, self.first.gates.len());
+        let (family, second_is) = (self.family, self.second_is);
+        format!("{family}, {second_is}, {qubits} qubits, {gates} gates")
+    }
+
+    /// How a report differs from what the lists were made to be.
+    pub fn unlike_made(&self, report: &Report) -> Option<String> {
+        let made = if self.is_equal { "equal" } else { "different" };
+        (report.word() != made).then(|| format!("{report}, but made to be {made}"))
+    }
 }
 
 /// A case that stands for a size in the summary of growth.

@@ -4,10 +4,12 @@
 //! `INPUTS` a reference program and a folder of inputs to time it on. It exits with 1 if anything differs.
 
 mod agreement;
+mod check;
 mod circuit;
 mod comparison;
 mod families;
 mod hashed;
+mod inputs;
 mod library;
 mod machine;
 mod pair;
@@ -19,9 +21,6 @@ mod rewrite;
 mod schedule;
 mod timing;
 
-use families::Case;
-use library::StoreSize;
-use pair::Pair;
 use reference::Reference;
 use std::io;
 use std::process::ExitCode;
@@ -39,7 +38,7 @@ fn main() -> ExitCode {
             return ExitCode::from(2);
         }
     };
-    let work = move || if check_only { check() } else { measure() };
+    let work = move || if check_only { check::all() } else { measure() };
     let thread = thread::Builder::new().stack_size(STACK).spawn(work);
     match thread.expect("a thread").join().expect("no panic") {
         Ok(differences) => conclude(&differences),
@@ -58,26 +57,6 @@ fn conclude(differences: &[String]) -> ExitCode {
         [] => ExitCode::SUCCESS,
         _ => ExitCode::FAILURE,
     }
-}
-
-/// Judges every case by everything that is there, once and at both store sizes.
-fn check() -> io::Result<Vec<String>> {
-    let mut differences = Vec::new();
-    let program = program::path();
-    let cases = families::all();
-    for case in &cases {
-        let mut found = Vec::new();
-        for size in [StoreSize::SMALL, StoreSize::LARGE] {
-            found.extend(comparison::check_at(case, size));
-        }
-        if let Some(program) = &program {
-            let pair = Pair::new(&case.first, &case.second);
-            found.extend(program::check(program, &pair)?);
-        }
-        differences.extend(found.iter().map(|difference| described(case, difference)));
-    }
-    println!("{} pairs, {} differences", cases.len(), differences.len());
-    Ok(differences)
 }
 
 /// Times everything and prints the tables.
@@ -105,16 +84,8 @@ fn measure_families(differences: &mut Vec<String>) {
     for case in families::all() {
         match comparison::measure(&case) {
             Ok(row) => rows.push(row),
-            Err(difference) => differences.push(described(&case, &difference)),
+            Err(difference) => differences.push(difference),
         }
     }
     println!("\n{}", comparison::summary(&rows));
-}
-
-fn described(case: &Case, difference: &str) -> String {
-    let (qubits, gates) = (case.first.qubits, case.first.gates.len());
-    format!(
-        "{}, {}, {qubits} qubits, {gates} gates: {difference}",
-        case.family, case.second_is
-    )
 }

@@ -27,13 +27,11 @@ impl Pair {
         }
     }
 
-    /// The pair of an input of the verdict program; `None` if its lists are not of the codes 0 to 9.
+    /// The pair of an input of the verdict program; `None` if its lists are not of the codes 0 to 9 on as many qubits.
     pub fn from_input(input: &[u8]) -> Option<Pair> {
         let (list1, list2) = split_lists(input)?;
-        Some(Pair::new(
-            &Circuit::decode(list1)?,
-            &Circuit::decode(list2)?,
-        ))
+        let (first, second) = (Circuit::decode(list1)?, Circuit::decode(list2)?);
+        (first.qubits == second.qubits).then(|| Pair::new(&first, &second))
     }
 
     /// The pair as the verdict program reads it.

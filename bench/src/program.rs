@@ -3,6 +3,7 @@
 use crate::circuit::{Circuit, Code, Gate};
 use crate::library::StoreSize;
 use crate::pair::Pair;
+use crate::report::Report;
 use crate::timing::microseconds;
 use std::io::{self, Write};
 use std::path::{Path, PathBuf};
@@ -20,23 +21,18 @@ pub fn path() -> Option<PathBuf> {
     path.exists().then_some(path)
 }
 
-/// Runs the program on the pair; gives how its line differs from the hash-map implementation's.
-pub fn check(program: &Path, pair: &Pair) -> io::Result<Option<String>> {
+/// How the program's line for the pair differs from a report's.
+pub fn unlike(program: &Path, pair: &Pair, report: &Report) -> io::Result<Option<String>> {
     let line = run(program, &pair.input())?;
-    let expected = format!("{}\n", pair.judge_by_hash_maps(StoreSize::SMALL).report);
-    Ok((line != expected).then(|| {
-        format!(
-            "verdict program: {}; hash maps: {}",
-            line.trim_end(),
-            expected.trim_end()
-        )
-    }))
+    let is_same = line == format!("{report}\n");
+    Ok((!is_same).then(|| format!("verdict program: {}; else: {report}", line.trim_end())))
 }
 
 /// Times the program on a small pair, beside a program that does nothing.
 pub fn measure(program: &Path) -> io::Result<Result<String, String>> {
     let pair = small_pair();
-    if let Some(difference) = check(program, &pair)? {
+    let report = pair.judge_by_hash_maps(StoreSize::SMALL).report;
+    if let Some(difference) = unlike(program, &pair, &report)? {
         return Ok(Err(difference));
     }
     let input = pair.input();

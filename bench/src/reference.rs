@@ -3,6 +3,7 @@
 //! The program takes `-r REPETITIONS -N NODES -L VALUES FILE` and prints a line with `us MEDIAN min FASTEST` in microseconds;
 //! where it also prints `steps S`, `nodes N` and `values L`, those are compared.
 
+use crate::inputs;
 use crate::library::{Lent, StoreSize};
 use crate::pair::Pair;
 use crate::report::{Report, Verdict};
@@ -31,7 +32,7 @@ impl Reference {
     pub fn from_environment() -> Option<Reference> {
         Some(Reference {
             program: PathBuf::from(std::env::var_os("REFERENCE")?),
-            inputs: PathBuf::from(std::env::var_os("INPUTS")?),
+            inputs: inputs::folder()?,
         })
     }
 
@@ -40,7 +41,7 @@ impl Reference {
         println!("{}", heading());
         let mut rows = Vec::new();
         let mut skipped = 0;
-        for path in self.files()? {
+        for path in inputs::files(&self.inputs)? {
             match Pair::from_input(&fs::read(&path)?) {
                 None => skipped += 1,
                 Some(pair) => match self.measure(&path, &pair)? {
@@ -53,19 +54,9 @@ impl Reference {
         Ok(())
     }
 
-    /// The folder's files, by name.
-    fn files(&self) -> io::Result<Vec<PathBuf>> {
-        let mut files = fs::read_dir(&self.inputs)?
-            .map(|entry| entry.map(|entry| entry.path()))
-            .collect::<io::Result<Vec<PathBuf>>>()?;
-        files.retain(|path| path.is_file());
-        files.sort();
-        Ok(files)
-    }
-
     fn measure(&self, path: &Path, pair: &Pair) -> io::Result<Result<Row, String>> {
         let (size, mut lent) = lent_for(pair);
-        let name = name(path);
+        let name = inputs::name(path);
         let estimate = fastest(|| pair.judge_by_library(&mut lent));
         let report = lent.report();
         let line = self.run(path, size, 1)?;
@@ -158,11 +149,6 @@ fn disagreement(line: &str, report: &Report) -> Option<String> {
         let found = field(line, key)?;
         (found != number.to_string()).then(|| format!("{key} {found}"))
     })
-}
-
-fn name(path: &Path) -> String {
-    let stem = path.file_stem().unwrap_or_default();
-    stem.to_string_lossy().into_owned()
 }
 
 /// The beginning of a file's name.
