@@ -3,14 +3,10 @@
 use std::time::{Duration, Instant};
 
 /// How often the contestants take turns.
-const ROUNDS: u32 = 3;
-
-/// The least time that each contestant runs, in all rounds together.
-const LEAST_TOTAL: Duration = Duration::from_millis(60);
+const ROUNDS: usize = 3;
 
 /// The least time of a turn.
-pub const LEAST_TURN: Duration =
-    Duration::from_millis(LEAST_TOTAL.as_millis() as u64 / ROUNDS as u64);
+pub const LEAST_TURN: Duration = Duration::from_millis(20);
 
 /// The fastest call of a turn.
 pub fn fastest(mut call: impl FnMut()) -> Duration {

@@ -51,7 +51,7 @@ impl Diagram {
         }
     }
 
-    /// Where a reference leads by the bit of a level that it does not lie below.
+    /// Where a reference leads by the bit of a level that is not past its own.
     pub fn cofactor(&self, reference: Reference, level: u32, bit: bool) -> Reference {
         if self.level(reference) != level {
             return reference;

@@ -8,7 +8,7 @@ mod step;
 pub use diagram::Diagram;
 
 use crate::circuit::{Circuit, Code, Gate};
-use crate::report::{Entry, Report, Verdict};
+use crate::report::{Report, Verdict};
 use diagram::Builder;
 use step::{Action, ComputedTable, Side};
 
@@ -140,7 +140,7 @@ impl Run {
     }
 
     fn report(&self) -> Report {
-        let corner: Entry = self.miter.corner();
+        let corner = self.miter.corner();
         let verdict = match search::forbidding_place(&self.miter, self.qubits) {
             None => Verdict::Equal { factor: corner },
             Some(place) => Verdict::Different {
