@@ -1,13 +1,6 @@
 //! Tests of the judging library, its bindings and the verdict program against a dense-matrix program.
 //!
-//! With no arguments every group runs; else those named. The last line is `N passed, M failed`.
-//!
-//! | variable | what | unless set |
-//! |---|---|---|
-//! | `GANNETROPE_LIB_DIR` | where `libcapi.a` is | `target/staticlib` of the repository |
-//! | `GANNETROPE_VERDICT` | the verdict program | `target/bin/verdict` of the repository |
-//! | `GANNETROPE_VECTORS` | where the vectors are | `tests/vectors` of the repository |
-//! | `GANNETROPE_SEED` | the seed of all that is random | 1 |
+//! With no arguments every group runs; else those named. README.md has the groups and the variables.
 
 mod call;
 mod circuits;
@@ -36,7 +29,7 @@ fn main() -> ExitCode {
     let seed = env::var("GANNETROPE_SEED").map_or(1, |seed| seed.parse().expect("a seed is a number"));
     println!("seed {seed}");
 
-    let groups: [Group; 11] = [
+    let groups: [Group; 12] = [
         ("dense", Box::new(|tally| groups::dense_itself::run(tally, seed))),
         ("paper", Box::new(groups::paper::run)),
         ("refusals", Box::new(|tally| groups::refusals::run(tally, seed))),
@@ -46,6 +39,7 @@ fn main() -> ExitCode {
         ("qubits", Box::new(|tally| groups::many_qubits::run(tally, seed))),
         ("binding", Box::new(|tally| groups::binding::run(tally, seed))),
         ("header", Box::new(|tally| groups::header::run(tally, home, &library))),
+        ("documentation", Box::new(|tally| groups::documentation::run(tally, home))),
         ("vectors", Box::new(|tally| groups::vectors::run(tally, &vectors, &program))),
         ("verdict", Box::new(|tally| groups::verdict::run(tally, &program, seed))),
     ];

@@ -1,6 +1,5 @@
 //! The C interface as it is, for callers that bring their own stack. `include/gannetrope.h` documents it.
 
-#[allow(missing_docs)]
 #[rustfmt::skip]
 unsafe extern "C" {
     /// Judges two gate lists: 0 if it did, 1 if `numbers` or `entries` is too short.

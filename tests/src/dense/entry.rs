@@ -64,7 +64,7 @@ impl Mul for Entry {
     type Output = Entry;
     fn mul(self, other: Entry) -> Entry {
         let mut product = [0; 4];
-        for (i, x) in self.0.iter().enumerate() {
+        for (i, x) in self.0.iter().enumerate().filter(|(_, x)| **x != 0) {
             for (j, y) in other.0.iter().enumerate() {
                 // w⁴ is −1
                 let sign = if i + j < 4 { 1 } else { -1 };

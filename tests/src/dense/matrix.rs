@@ -127,23 +127,20 @@ impl Matrix {
     /// The product by its definition; terms with a zero are left out.
     pub fn times(&self, right: &Matrix) -> Matrix {
         let mut product = Matrix { size: self.size, entries: vec![ZERO; self.entries.len()] };
+        let right_rows: Vec<Vec<(usize, Entry)>> = (0..self.size).map(|row| right.nonzero(row)).collect();
         for row in 0..self.size {
-            for middle in 0..self.size {
-                let factor = self.at(row, middle);
-                if !factor.is_zero() {
-                    product.add_row(row, factor, &right.entries[middle * self.size..][..self.size]);
+            for (middle, factor) in self.nonzero(row) {
+                for &(column, term) in &right_rows[middle] {
+                    let sum = &mut product.entries[row * self.size + column];
+                    *sum = *sum + factor * term;
                 }
             }
         }
         product
     }
 
-    fn add_row(&mut self, row: usize, factor: Entry, terms: &[Entry]) {
-        let sums = &mut self.entries[row * self.size..][..self.size];
-        for (sum, &term) in sums.iter_mut().zip(terms) {
-            if !term.is_zero() {
-                *sum = *sum + factor * term;
-            }
-        }
+    /// The entries of a row that are not zero, with their columns.
+    fn nonzero(&self, row: usize) -> Vec<(usize, Entry)> {
+        (0..self.size).map(|column| (column, self.at(row, column))).filter(|(_, entry)| !entry.is_zero()).collect()
     }
 }

@@ -7,7 +7,7 @@ use super::entry::Entry;
 use super::matrix::{Gate, Matrix};
 use super::reader::Circuit;
 
-/// The most qubits that a full matrix is made for.
+/// The most qubits of which every step is looked at.
 pub const MOST_QUBITS: u32 = 6;
 
 /// The widest numbers that any call may hold.
@@ -37,6 +37,12 @@ impl Miter {
     pub fn of_circuit(circuit: &Circuit) -> Miter {
         let apply = |product: Miter, gate| product.on_the_left(gate, circuit.qubits);
         circuit.gates.iter().fold(Miter::identity(circuit.qubits), apply)
+    }
+
+    /// U·V⁻¹: all of U is taken first, then all of V.
+    pub fn of_pair(u: &Circuit, v: &Circuit) -> Miter {
+        let apply = |product: Miter, gate: &Gate| product.on_the_right(&gate.inverse(), u.qubits);
+        v.gates.iter().fold(Miter::of_circuit(u), apply)
     }
 
     fn corner(&self) -> Entry {
@@ -101,7 +107,7 @@ impl Run {
     /// Runs a schedule that fits.
     pub fn of(u: &Circuit, v: &Circuit, schedule: &[u8]) -> Run {
         let qubits = u.qubits;
-        assert!(qubits <= MOST_QUBITS, "no full matrix of {qubits} qubits");
+        assert!(qubits <= MOST_QUBITS, "{qubits} qubits are too many for every step");
         let (mut from_u, mut from_v) = (u.gates.iter(), v.gates.iter());
         let mut last = Miter::identity(qubits);
         let mut needs = vec![Needs::of(&last)];

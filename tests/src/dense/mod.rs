@@ -108,7 +108,8 @@ pub fn outcome(run: &Run, w: u32, nodes: usize, values: usize) -> Outcome {
     finished(&run.last, run.needs.len() - 1)
 }
 
-fn finished(miter: &Miter, steps: usize) -> Outcome {
+/// What a run comes to that is never refused.
+pub fn finished(miter: &Miter, steps: usize) -> Outcome {
     let diagram = Reduced::of(&miter.matrix).numbered();
     let report = Report {
         verdict: miter.verdict(),

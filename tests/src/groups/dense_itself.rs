@@ -15,8 +15,8 @@ pub fn run(tally: &mut Tally, seed: u64) {
     for code in 0..CODES {
         tally.case(&format!("inverse of code {code}"), || inverse_undoes(code));
     }
-    tally.case("proportional schedule of 2 and 4", || example_schedule());
-    tally.case("the paper's input", || example_input());
+    tally.case("proportional schedule of 2 and 4", example_schedule);
+    tally.case("the paper's input", example_input);
     let mut random = Random::new(seed);
     for qubits in 1..=4 {
         for flavour in ["random", "rewritten", "spoiled"] {

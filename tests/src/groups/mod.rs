@@ -3,6 +3,7 @@
 pub mod binding;
 pub mod damage;
 pub mod dense_itself;
+pub mod documentation;
 pub mod header;
 pub mod many_qubits;
 pub mod one_answer;

@@ -33,7 +33,7 @@ fn check_pair(random: &mut Random, qubits: u32, most_gates: usize) -> Checked {
         first: lengths(4096, 1024),
         second: lengths(4096, 1024),
     };
-    for limits in interesting_limits(random, run.peak()) {
+    for limits in interesting_limits(random, run.peak()).into_iter().chain(both_break(&run)) {
         let store = lengths(limits.nodes, limits.values);
         let call = Call { w: limits.width, first: store, second: store, ..call.clone() };
         let expected = outcome(&run, limits.width, limits.nodes, limits.values);
@@ -92,4 +92,17 @@ fn interesting_limits(random: &mut Random, peak: Needs) -> Vec<Needs> {
         limits.push(Needs { width: enough.width - 1, ..enough });
     }
     limits
+}
+
+/// Limits that the steps before some step keep, and that it breaks in width and in size at once.
+fn both_break(run: &Run) -> Option<Needs> {
+    let mut before = run.needs[0];
+    for &needs in &run.needs[1..] {
+        let breaks = needs.width > before.width.max(2) && (needs.nodes > before.nodes || needs.values > before.values);
+        if breaks {
+            return Some(Needs { width: before.width.max(2), ..before });
+        }
+        before = before.most(needs);
+    }
+    None
 }
