@@ -29,7 +29,9 @@ impl Tally {
     /// Runs a group of cases; one without any is a failure.
     pub fn group(&mut self, name: &str, run: impl FnOnce(&mut Tally)) {
         let mut group = Tally::default();
-        run(&mut group);
+        if panic::catch_unwind(AssertUnwindSafe(|| run(&mut group))).is_err() {
+            group.fail(name, "it panicked");
+        }
         if group.passed + group.failed == 0 {
             group.fail(name, "nothing ran");
         }

@@ -17,6 +17,11 @@
 //!
 //! A number over 127 takes two or three bytes of seven bits each, the lowest first, with the top bit set in all but the
 //! last.
+//!
+//! # Building
+//!
+//! `rt staticlib capi` makes the static library that this crate links, in `target/staticlib` of the repository;
+//! `GANNETROPE_LIB_DIR` names another directory.
 
 mod judge;
 pub mod raw;

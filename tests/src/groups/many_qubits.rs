@@ -15,7 +15,7 @@ use crate::random::Random;
 use crate::tally::{Checked, Tally};
 
 /// Qubits, and the gates of each list: a full matrix of them has at most 65,536 entries, so the largest stores hold it.
-const LARGE: [(u32, usize); 6] = [(7, 30), (7, 60), (7, 90), (8, 25), (8, 50), (8, 70)];
+const LARGE: [(u32, usize); 6] = [(7, 30), (7, 60), (7, 90), (8, 50), (8, 70), (8, 110)];
 
 /// Qubits, and the gates of a list.
 const LISTS: [(u32, usize); 8] = [(7, 100), (8, 300), (9, 50), (11, 1000), (13, 200), (15, 400), (16, 300), (16, 4096)];

@@ -9,7 +9,7 @@ use crate::random::Random;
 use crate::tally::{Checked, Tally};
 
 /// How many pairs of each number of qubits, and how many gates a list of them has at most.
-const PAIRS: [(usize, usize); MOST_QUBITS as usize] = [(240, 40), (240, 40), (200, 36), (120, 30), (60, 26), (30, 22)];
+const PAIRS: [(usize, usize); MOST_QUBITS as usize] = [(240, 40), (240, 40), (200, 40), (140, 40), (80, 40), (50, 40)];
 
 pub fn run(tally: &mut Tally, seed: u64) {
     for (qubits, (pairs, most_gates)) in (1..).zip(PAIRS) {
