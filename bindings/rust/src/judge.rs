@@ -5,7 +5,7 @@ use std::thread;
 use crate::report::Slots;
 use crate::schedule::proportional_of;
 use crate::store::MOST_SLOTS;
-use crate::{Columns, Judged, Report, Schedule, Store, raw};
+use crate::{Columns, Entry, Node, Report, Schedule, Store, raw};
 
 /// The stack that a call runs on. It needs up to 4.7 MB; what it does not touch costs nothing.
 const STACK: usize = 16 << 20;
@@ -25,6 +25,39 @@ pub struct Limits {
 impl Default for Limits {
     fn default() -> Self {
         Limits { width: 32, nodes: 4096, values: 1024 }
+    }
+}
+
+/// A judged pair: the report and the miter's reduced diagram.
+#[derive(Clone, Debug)]
+pub struct Judged {
+    report: Report,
+    first: Store,
+}
+
+impl Judged {
+    /// The report.
+    pub fn report(&self) -> Report {
+        self.report
+    }
+
+    /// The nodes of the miter's reduced diagram, the root last; none if the call was refused.
+    pub fn nodes(&self) -> impl ExactSizeIterator<Item = Node> + '_ {
+        (0..self.report.nodes as usize).map(|slot| Node {
+            level: self.first.level[slot],
+            low: self.first.low[slot],
+            high: self.first.high[slot],
+        })
+    }
+
+    /// The values of the miter's reduced diagram; none if the call was refused.
+    pub fn values(&self) -> impl ExactSizeIterator<Item = Entry> + '_ {
+        (0..self.report.values as usize).map(|slot| Entry {
+            a: self.first.a[slot],
+            b: self.first.b[slot],
+            c: self.first.c[slot],
+            d: self.first.d[slot],
+        })
     }
 }
 
@@ -59,7 +92,7 @@ pub fn judge(list1: &[u8], list2: &[u8], schedule: Schedule<'_>, limits: Limits)
         }
     };
     let report = judge_in(list1, list2, schedule, limits.width, first.columns(), second.columns());
-    Judged::new(report, first)
+    Judged { report, first }
 }
 
 /// Judges two gate lists by a lent schedule in lent columns of any lengths and contents.

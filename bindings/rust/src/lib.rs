@@ -29,7 +29,7 @@ mod report;
 mod schedule;
 mod store;
 
-pub use judge::{Limits, judge, judge_in};
+pub use judge::{Judged, Limits, judge, judge_in};
 pub use report::{Entry, Refusal, Report, Verdict};
 pub use schedule::{MOST_GATES, Schedule, fill_proportional, proportional};
-pub use store::{Columns, Judged, MOST_SLOTS, Node, Store};
+pub use store::{Columns, MOST_SLOTS, Node, Store};

@@ -1,7 +1,5 @@
 //! Stores: the columns that a diagram lives in.
 
-use crate::{Entry, Report};
-
 /// The most slots that a column may have; a store with longer ones is refused with 2.
 pub const MOST_SLOTS: usize = 65_536;
 
@@ -80,41 +78,4 @@ pub struct Node {
     pub low: u32,
     /// The reference where that bit is 1.
     pub high: u32,
-}
-
-/// A judged pair: the report and the miter's reduced diagram.
-#[derive(Clone, Debug)]
-pub struct Judged {
-    report: Report,
-    first: Store,
-}
-
-impl Judged {
-    pub(crate) fn new(report: Report, first: Store) -> Self {
-        Judged { report, first }
-    }
-
-    /// The report.
-    pub fn report(&self) -> Report {
-        self.report
-    }
-
-    /// The nodes of the miter's reduced diagram, the root last; none if the call was refused.
-    pub fn nodes(&self) -> impl ExactSizeIterator<Item = Node> + '_ {
-        (0..self.report.nodes as usize).map(|slot| Node {
-            level: self.first.level[slot],
-            low: self.first.low[slot],
-            high: self.first.high[slot],
-        })
-    }
-
-    /// The values of the miter's reduced diagram; none if the call was refused.
-    pub fn values(&self) -> impl ExactSizeIterator<Item = Entry> + '_ {
-        (0..self.report.values as usize).map(|slot| Entry {
-            a: self.first.a[slot],
-            b: self.first.b[slot],
-            c: self.first.c[slot],
-            d: self.first.d[slot],
-        })
-    }
 }
