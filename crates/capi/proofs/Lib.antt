@@ -1,0 +1,4 @@
+pub mod Calls
+pub mod Copies
+pub mod Entries
+pub mod Makers

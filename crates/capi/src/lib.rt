@@ -1,82 +1,133 @@
 // The C interface: the judging call and the schedule maker on numbers and slices.
-use algebra::Entry;
 use miters::Refusal;
 use miters::Report;
 use miters::Verdict;
 use schedules::Made;
+ghost use mathlib.Core.Path.{_≡_};
+ghost use Prim.Native.Nat.{_≤_};
+ghost use lib.ListN.{length};
+ghost use Rattle.schedules.specs.Schedule.{made, filled};
+ghost use Rattle.diagrams.specs.Columns.{columns, over};
+ghost use Rattle.judges.specs.Answer.{answer};
+ghost use Rattle.capi.specs.Numbers.{reason-of, numbers-of, entries-of};
+ghost use Rattle.capi.specs.Calls.{Written, returning, judging, steps-or-refusal};
 
-// How many numbers a report takes: the kind (0 equal, 1 different, 2 refused), exponent, steps, nodes, values, row, column, and
-// of a refusal its number, the list, the offset and the steps before it.
-const NUMBERS: usize = 11;
+// ---- a report as numbers
 
-// The factor or the entry, and the corner.
-const ENTRIES: usize = 8;
-
-fn write_entry(e: Entry, at: usize, entries: &mut [i32]) {
-    let a = e.a;
-    let b = e.b;
-    let c = e.c;
-    let d = e.d;
-    entries[at] = a;
-    entries[at + 1] = b;
-    entries[at + 2] = c;
-    entries[at + 3] = d;
+// What a refusal returns, with 0 where it has no such number.
+struct Reason {
+    number: u64,
+    list: u64,
+    offset: u64,
+    steps: u64,
 }
 
-fn write_refusal(why: Refusal, numbers: &mut [u64]) {
+fn refusal_reason(why: Refusal) -> Reason
+    ensures { λ r. ⌜ r ≡ reason-of why ⌝ }
+{
     match why {
-        Refusal::Call { number } => {
-            numbers[7] = number as u64;
-        }
+        Refusal::Call { number } => Reason {
+            number: number as u64,
+            list: 0,
+            offset: 0,
+            steps: 0,
+        },
         Refusal::Byte {
             number,
             list,
             offset,
-        } => {
-            numbers[7] = number as u64;
-            numbers[8] = list as u64;
-            numbers[9] = offset as u64;
+        } => Reason {
+            number: number as u64,
+            list: list as u64,
+            offset: offset as u64,
+            steps: 0,
+        },
+        Refusal::Step { number, steps } => Reason {
+            number: number as u64,
+            list: 0,
+            offset: 0,
+            steps: steps as u64,
+        },
+    }
+}
+
+// The kind, the counts, the place, and what a refusal returns.
+fn report_numbers(report: Report) -> [u64; 11]
+    ensures { λ r. ⌜ r ≡ numbers-of report ⌝ }
+{
+    let k = report.exponent as u64;
+    let steps = report.steps as u64;
+    let nodes = report.nodes as u64;
+    let values = report.values as u64;
+    let verdict = report.verdict;
+    match verdict {
+        Verdict::Equal(_) => [0, k, steps, nodes, values, 0, 0, 0, 0, 0, 0],
+        Verdict::Different(d) => {
+            let row = d.row as u64;
+            let column = d.column as u64;
+            [1, k, steps, nodes, values, row, column, 0, 0, 0, 0]
         }
-        Refusal::Step { number, steps } => {
-            numbers[7] = number as u64;
-            numbers[10] = steps as u64;
+        Verdict::Refused(why) => {
+            let r = refusal_reason(why);
+            [2, k, steps, nodes, values, 0, 0, r.number, r.list, r.offset, r.steps]
         }
     }
 }
 
-fn write_report(report: Report, numbers: &mut [u64], entries: &mut [i32]) {
-    let mut i = 0;
-    while i < 11 {
-        numbers[i] = 0;
-        i += 1;
-    }
-    let mut i = 0;
-    while i < 8 {
-        entries[i] = 0;
-        i += 1;
-    }
-    numbers[1] = report.exponent as u64;
-    numbers[2] = report.steps as u64;
-    numbers[3] = report.nodes as u64;
-    numbers[4] = report.values as u64;
-    let verdict = report.verdict;
+// The factor or the entry, and the corner.
+fn verdict_entries(verdict: Verdict) -> [i32; 8]
+    ensures { λ r. ⌜ r ≡ entries-of verdict ⌝ }
+{
     match verdict {
-        Verdict::Equal(factor) => {
-            write_entry(factor, 0, entries);
+        Verdict::Equal(x) => [x.a, x.b, x.c, x.d, 0, 0, 0, 0],
+        Verdict::Different(d) => {
+            let x = d.entry;
+            let y = d.corner;
+            [x.a, x.b, x.c, x.d, y.a, y.b, y.c, y.d]
         }
-        Verdict::Different(place) => {
-            numbers[0] = 1;
-            numbers[5] = place.row as u64;
-            numbers[6] = place.column as u64;
-            write_entry(place.entry, 0, entries);
-            write_entry(place.corner, 4, entries);
-        }
-        Verdict::Refused(why) => {
-            numbers[0] = 2;
-            write_refusal(why, numbers);
-        }
+        Verdict::Refused(_) => [0, 0, 0, 0, 0, 0, 0, 0],
     }
 }
+
+// ---- the slices
+
+// Some numbers go into the first slots of a slice, whose other slots stay as they were.
+fn write_numbers(from: &[u64], to: &mut [u64])
+    requires { ⌜ length (now from) ≤ length (now to) ⌝ }
+    ensures { λ _. ⌜ now (to .exit) ≡ over (now (from .entry)) (now (to .entry)) ⌝ }
+{
+    let mut i = 0;
+    while i < from.len() {
+        let x = from[i];
+        to[i] = x;
+        i += 1;
+    }
+}
+
+fn write_entries(from: &[i32], to: &mut [i32])
+    requires { ⌜ length (now from) ≤ length (now to) ⌝ }
+    ensures { λ _. ⌜ now (to .exit) ≡ over (now (from .entry)) (now (to .entry)) ⌝ }
+{
+    let mut i = 0;
+    while i < from.len() {
+        let x = from[i];
+        to[i] = x;
+        i += 1;
+    }
+}
+
+fn write_report(report: Report, numbers: &mut [u64], entries: &mut [i32])
+    requires { ⌜ (11 ≤ length (now numbers)) × (8 ≤ length (now entries)) ⌝ }
+    ensures { λ _. ⌜ Written report (now (numbers .entry)) (now (entries .entry)) (now (numbers .exit)) (now (entries .exit)) ⌝ }
+{
+    let shown = report_numbers(report);
+    write_numbers(&shown, numbers);
+    let verdict = report.verdict;
+    let shown = verdict_entries(verdict);
+    write_entries(&shown, entries);
+}
+
+// ---- the calls
 
 // 0, with the report in the two slices; 1 if a slice is too short for it, and then nothing is judged or written.
 #[no_mangle]
@@ -101,11 +152,20 @@ pub extern "C" fn gannetrope_judge(
     other_d: &mut [i32],
     numbers: &mut [u64],
     entries: &mut [i32],
-) -> u32 {
-    if numbers.len() < NUMBERS {
+) -> u32
+    ensures { λ r. ⌜ returning r
+        (columns (now (level .exit)) (now (low .exit)) (now (high .exit)) (now (a .exit)) (now (b .exit)) (now (c .exit)) (now (d .exit)))
+        (columns (now («other_level» .exit)) (now («other_low» .exit)) (now («other_high» .exit)) (now («other_a» .exit)) (now («other_b» .exit)) (now («other_c» .exit)) (now («other_d» .exit)))
+        (now (numbers .exit)) (now (entries .exit))
+        ≡ judging (answer (now (u .entry)) (now (v .entry)) (now (schedule .entry)) w)
+        (columns (now (level .entry)) (now (low .entry)) (now (high .entry)) (now (a .entry)) (now (b .entry)) (now (c .entry)) (now (d .entry)))
+        (columns (now («other_level» .entry)) (now («other_low» .entry)) (now («other_high» .entry)) (now («other_a» .entry)) (now («other_b» .entry)) (now («other_c» .entry)) (now («other_d» .entry)))
+        (now (numbers .entry)) (now (entries .entry)) ⌝ }
+{
+    if numbers.len() < 11 {
         return 1;
     }
-    if entries.len() < ENTRIES {
+    if entries.len() < 8 {
         return 1;
     }
     let report = judges::judge(
@@ -134,7 +194,10 @@ pub extern "C" fn gannetrope_judge(
 
 // The steps of the proportional schedule of m and p gates, written to the front of the buffer, or 65,536 and the refusal's number.
 #[no_mangle]
-pub extern "C" fn gannetrope_schedule(m: u32, p: u32, buffer: &mut [u8]) -> u32 {
+pub extern "C" fn gannetrope_schedule(m: u32, p: u32, buffer: &mut [u8]) -> u32
+    ensures answer { λ r. ⌜ r ≡ steps-or-refusal (made m p (now (buffer .entry))) ⌝ }
+    ensures contents { λ _. ⌜ now (buffer .exit) ≡ filled m p (made m p (now (buffer .entry))) (now (buffer .entry)) ⌝ }
+{
     match schedules::proportional(m, p, buffer) {
         Made::Steps(steps) => steps,
         Made::Refused(number) => 65536 + number,
