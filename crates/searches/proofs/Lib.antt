@@ -5,4 +5,5 @@ pub mod Turns
 pub mod Landings
 pub mod Verdicts
 pub mod Starts
+pub mod Entries
 pub mod Held

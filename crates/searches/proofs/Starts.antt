@@ -35,7 +35,7 @@ module _ (n nodes values : ℕ) (cols : Columns) (held : Searchable n nodes valu
   abbrev root : ℕ
   root = 2 * (nodes - 1) + 1
 
-  abbrev task : ℕ → ℕ → Task
+  abbrev pub task : ℕ → ℕ → Task
   task c z = record { nodes = nodes; levels = 2 * n; corner = c; zero = z }
 
   -- the reference that the bits of all levels lead to, and its entry
@@ -59,7 +59,11 @@ module _ (n nodes values : ℕ) (cols : Columns) (held : Searchable n nodes valu
     zero-value = zero-value;
   }
 
-  root-used : Used nodes root
+  -- whatever is sought
+  pub plain : Sound (cols .level) (cols .low) (cols .high) (task 0 0)
+  plain = sound 0 0 (λ odd. absurd (omega arith))
+
+  pub root-used : Used nodes root
   root-used odd = omega (arith, held .some-node)
 
   descends : (left asked r : ℕ) → Used nodes r → Descends (cols .level) (cols .low) (cols .high) left asked r
@@ -69,9 +73,6 @@ module _ (n nodes values : ℕ) (cols : Columns) (held : Searchable n nodes valu
     descends left (suc asked) (cofactor (cols .level) (cols .low) (cols .high) asked false r)
         (used-down (cols .level) (cols .low) (cols .high) (task 0 0) plain asked false r used),
   )
-    where
-      plain : Sound (cols .level) (cols .low) (cols .high) (task 0 0)
-      plain = sound 0 0 (λ odd. absurd (omega arith))
 
   pub root-descends : Descends (cols .level) (cols .low) (cols .high) (2 * n) 0 root
   root-descends = descends (2 * n) 0 root root-used
@@ -81,16 +82,16 @@ module _ (n nodes values : ℕ) (cols : Columns) (held : Searchable n nodes valu
   root-is : ref-of root ≡ node (nodes - 1)
   root-is = ref-node root (omega arith) ∙ ap node (omega arith)
 
-  abbrev Landing : ℕ → Entry → Type 0
+  abbrev pub Landing : ℕ → Entry → Type 0
   Landing = Lands nodes values (levels n) cols (held .tidy) (held .closed)
 
-  root-lands : (l : Bits) → length l ≡ levels n → Landing (f l) (g l)
+  pub root-lands : (l : Bits) → length l ≡ levels n → Landing (f l) (g l)
   root-lands l e = subst (λ (x : Ref). Landing (f l) (reached 𝟘 s 0 x l)) root-is
       (landed nodes values (levels n) cols (held .tidy) (held .closed) l 0 root
       (subst (λ (x : Ref). Seen x nodes values) (sym root-is) (omega (arith, held .some-node)))
       (subst (From s 0) (sym root-is) (omega arith)) (omega arith))
 
-  slot-there : {v : ℕ} {e : Entry} → Landing v e → ValueColumns (cols .a) (cols .b) (cols .c) (cols .d) (v / 2 + 1)
+  pub slot-there : {v : ℕ} {e : Entry} → Landing v e → ValueColumns (cols .a) (cols .b) (cols .c) (cols .d) (v / 2 + 1)
   slot-there {v} lands =
       let used : v / 2 < values = lands .used in
       record {

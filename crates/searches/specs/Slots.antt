@@ -1,7 +1,7 @@
 -- The store in the first slots of lent columns, and the way down in it. Definitions only; their laws are in proofs/Slots.antt.
 use mathlib.Core.Bool.{Bool, cond}
 use mathlib.Core.List.{List, [], _∷_}
-use Prim.Native.Nat.{ℕ, suc, _/_, _%_}
+use Prim.Native.Nat.{ℕ, zero, suc, _/_, _%_, _^_}
 use lib.Dec.{eqb}
 use lib.ListN.{getD}
 use Rattle.algebra.specs.declared.Entry.{Entry}
@@ -26,3 +26,8 @@ cofactor level low high asked b r = cond (eqb (r % 2) 1) (cond (eqb (getD level 
 abbrev pub landing : List ℕ → List ℕ → List ℕ → ℕ → ℕ → Bits → ℕ
 landing level low high asked r [] = r
 landing level low high asked r (b ∷ l) = landing level low high (suc asked) (cofactor level low high asked b r) l
+
+-- "Qubit 0 is the most significant bit of a row or column number": the low k bits of a number, the most significant first
+abbrev pub bits : ℕ → ℕ → Bits
+bits zero x = []
+bits (suc k) x = eqb (x / 2 ^ k % 2) 1 ∷ bits k x

@@ -1,7 +1,8 @@
-// The verdict on a miter, read off the store that holds its reduced diagram.
+// The verdict on a miter, and any of its entries, read off the store that holds its reduced diagram.
 //
 // Node i stands in slot i of the columns level, low and high, value j in slot j of the columns a, b, c and d. The reference to
 // value j is 2·j, that to node i is 2·i + 1.
+use algebra::Entry;
 use diagrams::FULL;
 use miters::Difference;
 use miters::Verdict;
@@ -12,7 +13,7 @@ ghost use lib.ListN.{replicate};
 ghost use Rattle.diagrams.specs.Diagram.{node};
 ghost use Rattle.diagrams.specs.Columns.{columns};
 ghost use Rattle.miters.specs.Report.{verdict};
-ghost use Rattle.searches.specs.Slots.{store-in, cofactor, landing};
+ghost use Rattle.searches.specs.Slots.{store-in, cofactor, landing, bits};
 ghost use Rattle.searches.specs.Search.{given, is-settled, row-sought, column-sought};
 ghost use Rattle.searches.specs.Ready.{InNodes, Descends, Searchable, Row-ready, Column-ready};
 
@@ -193,4 +194,50 @@ pub fn read_verdict(
             corner: factor,
         }),
     }
+}
+
+// ---- one entry
+
+// The child of r by a bit of a level: r itself where it does not ask for it.
+fn child_of(level: &[u32], low: &[u32], high: &[u32], r: u32, asked: u32, bit: bool) -> u32
+    requires { ⌜ InNodes (now level) (now low) (now high) r ⌝ }
+    ensures { λ x. ⌜ x ≡ cofactor (now (level .entry)) (now (low .entry)) (now (high .entry)) asked bit r ⌝ }
+{
+    let s = look(level, low, high, r, asked);
+    if bit {
+        return s.high;
+    }
+    s.low
+}
+
+// The entry at a row and a column: down from the root by a row bit and a column bit of each qubit, qubit 0 first.
+pub fn entry_at(
+    level: &[u32],
+    low: &[u32],
+    high: &[u32],
+    a: &[i32],
+    b: &[i32],
+    c: &[i32],
+    d: &[i32],
+    nodes: u32,
+    values: u32,
+    n: u32,
+    row: u32,
+    column: u32,
+) -> Entry
+    requires { ⌜ Searchable n nodes values (columns (now level) (now low) (now high) (now a) (now b) (now c) (now d)) ⌝ }
+    ensures { λ r. ⌜ r ≡ given
+        (store-in nodes values
+        (columns (now (level .entry)) (now (low .entry)) (now (high .entry)) (now (a .entry)) (now (b .entry)) (now (c .entry)) (now (d .entry))))
+        (node (nodes - 1)) (bits n row) (bits n column) ⌝ }
+{
+    let mut r = 2 * (nodes - 1) + 1;
+    let mut left = n;
+    while left > 0 {
+        let asked = 2 * (n - left);
+        left -= 1;
+        r = child_of(level, low, high, r, asked, (row >> left) % 2 == 1);
+        r = child_of(level, low, high, r, asked + 1, (column >> left) % 2 == 1);
+    }
+    diagrams::value_at(a, b, c, d, (r / 2) as usize)
 }
