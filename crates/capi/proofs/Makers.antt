@@ -29,8 +29,7 @@ module _ (m p : ℕ) (buffer : List ℕ) {answer : Made} (is : answer ≡ made m
       let small = refusals (leb m gate-limit && leb p gate-limit) (leb (m + p) (length buffer)) (m + p) in
       omega (arith, ap refusal (sym is ∙ e), small)
 
-  pub as-number : {case : Made} → answer ≡ case → steps-or-refusal case ≡ steps-or-refusal (made m p buffer)
-  as-number e = ap steps-or-refusal (sym e ∙ is)
-
-  pub as-filled : {after : List ℕ} → after ≡ filled m p answer buffer → after ≡ filled m p (made m p buffer) buffer
-  as-filled left = left ∙ ap (λ (r : Made). filled m p r buffer) is
+  -- in each case, the number and the buffer
+  pub answered : {case : Made} {after : List ℕ} → answer ≡ case → after ≡ filled m p answer buffer
+      → (steps-or-refusal case ≡ steps-or-refusal (made m p buffer)) × (after ≡ filled m p (made m p buffer) buffer)
+  answered e left = (ap steps-or-refusal (sym e ∙ is), left ∙ ap (λ (r : Made). filled m p r buffer) is)

@@ -69,7 +69,19 @@ fn report_numbers(report: Report) -> [u64; 11]
         }
         Verdict::Refused(why) => {
             let r = refusal_reason(why);
-            [2, k, steps, nodes, values, 0, 0, r.number, r.list, r.offset, r.steps]
+            [
+                2,
+                k,
+                steps,
+                nodes,
+                values,
+                0,
+                0,
+                r.number,
+                r.list,
+                r.offset,
+                r.steps,
+            ]
         }
     }
 }
@@ -155,11 +167,13 @@ pub extern "C" fn gannetrope_judge(
 ) -> u32
     ensures { λ r. ⌜ returning r
         (columns (now (level .exit)) (now (low .exit)) (now (high .exit)) (now (a .exit)) (now (b .exit)) (now (c .exit)) (now (d .exit)))
-        (columns (now («other_level» .exit)) (now («other_low» .exit)) (now («other_high» .exit)) (now («other_a» .exit)) (now («other_b» .exit)) (now («other_c» .exit)) (now («other_d» .exit)))
+        (columns (now («other_level» .exit)) (now («other_low» .exit)) (now («other_high» .exit)) (now («other_a» .exit))
+        (now («other_b» .exit)) (now («other_c» .exit)) (now («other_d» .exit)))
         (now (numbers .exit)) (now (entries .exit))
         ≡ judging (answer (now (u .entry)) (now (v .entry)) (now (schedule .entry)) w)
         (columns (now (level .entry)) (now (low .entry)) (now (high .entry)) (now (a .entry)) (now (b .entry)) (now (c .entry)) (now (d .entry)))
-        (columns (now («other_level» .entry)) (now («other_low» .entry)) (now («other_high» .entry)) (now («other_a» .entry)) (now («other_b» .entry)) (now («other_c» .entry)) (now («other_d» .entry)))
+        (columns (now («other_level» .entry)) (now («other_low» .entry)) (now («other_high» .entry)) (now («other_a» .entry))
+        (now («other_b» .entry)) (now («other_c» .entry)) (now («other_d» .entry)))
         (now (numbers .entry)) (now (entries .entry)) ⌝ }
 {
     if numbers.len() < 11 {

@@ -42,8 +42,8 @@ pub record Scheduled (u v : List ℕ) (steps : ℕ) (buffer : List ℕ) : Type 0
   pub room : steps ≤ length buffer
   pub front : take steps buffer ≡ proportional (gate-count u) (gate-count v)
 
-pub scheduled : (u v : List ℕ) {m p : ℕ} {answer : Made} (before : List ℕ) {after : List ℕ} → 8192 ≤ length before → m ≡ gate-count u → p ≡ gate-count v
-    → answer ≡ made m p before → after ≡ filled m p answer before → Scheduled u v (m + p) after
+pub scheduled : (u v : List ℕ) {m p : ℕ} {answer : Made} (before : List ℕ) {after : List ℕ} → 8192 ≤ length before
+    → m ≡ gate-count u → p ≡ gate-count v → answer ≡ made m p before → after ≡ filled m p answer before → Scheduled u v (m + p) after
 scheduled u v {m} {p} before long first second is left = record {
   few = omega (arith, few-u, few-v);
   room = made-room m p before few-u few-v fits is left;

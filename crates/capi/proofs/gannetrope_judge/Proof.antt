@@ -15,12 +15,16 @@ judge-requires c κs = search needs
 
 write-report-requires : tie.Need-write-report-requires
 write-report-requires c κs =
-    let room = c .before .before .before .before .before .before .before .before .before .before .before .before .before .before .before .before .before .before .before .before .before .before .before .before .before .before .before .before .before .before .before .before .before .before .before .before .before in
+    let room =
+    c .before .before .before .before .before .before .before .before .before .before .before .before .before .before .before .before .before .before
+    .before .before .before .before .before .before .before .before .before .before .before .before .before .before .before .before .before .before .before in
     (room .before .if1 .left, room .if2 .left)
 
 -- the judging call, before the report is written
 abbrev the-call : tie.After-entries → tie.After-judge
-the-call c = c .before .before .before .before .before .before .before .before .before .before .before .before .before .before .before .before .before .before .before .before .before .before .before .before .before .before
+the-call c =
+    c .before .before .before .before .before .before .before .before .before .before .before .before .before .before .before .before .before .before
+    .before .before .before .before .before .before .before .before
 
 same-length : tie.Need-same-length
 same-length c = the-call c .judge .kept .1 .1 .1 .1 .0

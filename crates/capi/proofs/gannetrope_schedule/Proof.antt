@@ -1,7 +1,7 @@
 -- `capi::gannetrope_schedule` meets its contract: the maker's answer as a number, and its buffer. Assumes nothing.
 use native.Mathlib.Omega.{arith}
 use borrow.Author.Needs.{needs}
-use Rattle.capi.proofs.Makers.{refusal-small, as-number, as-filled}
+use Rattle.capi.proofs.Makers.{refusal-small, answered}
 use Rattle.capi.proofs.gannetrope_schedule.Statement.{statement}
 use Rattle.capi.proofs.gannetrope_schedule.Tie as tie
 
@@ -25,8 +25,7 @@ same-length c = search needs
 returns : tie.Need-returns
 returns c =
     let maker = c .before .before .before .before .before in
-    (as-number _ _ _ (maker .proportional .ensures .0) (c .before .steps .given .1),
-    as-filled _ _ _ (maker .proportional .ensures .0) (maker .proportional .ensures .1))
+    answered _ _ _ (maker .proportional .ensures .0) (c .before .steps .given .1) (maker .proportional .ensures .1)
 
 same-length-2 : tie.Need-same-length-2
 same-length-2 c = search needs
@@ -34,8 +33,7 @@ same-length-2 c = search needs
 returns-2 : tie.Need-returns-2
 returns-2 c =
     let maker = c .before .before .before .before .before in
-    (as-number _ _ _ (maker .proportional .ensures .0) (c .before .number .given .1),
-    as-filled _ _ _ (maker .proportional .ensures .0) (maker .proportional .ensures .1))
+    answered _ _ _ (maker .proportional .ensures .0) (c .before .number .given .1) (maker .proportional .ensures .1)
 
 pub gannetrope-schedule-spec : {M : Type 1} → statement M
 gannetrope-schedule-spec =

@@ -54,7 +54,9 @@ judge-requires c κs = search needs
 
 returns : tie.Need-returns
 unfolding along-report store cleared
-returns c = ap (λ (o : Outcome). o .report) (c .before .before .before .before .before .before .before .before .before .before .before .before .before .before .judge .ensures)
+returns c =
+    let call = c .before .before .before .before .before .before .before .before .before .before .before .before .before .before in
+    ap (λ (o : Outcome). o .report) (call .judge .ensures)
 
 pub judge-along-spec : {M : Type 1} → statement M
 judge-along-spec =
