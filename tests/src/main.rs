@@ -22,6 +22,10 @@ use tally::Tally;
 type Group<'a> = (&'a str, Box<dyn Fn(&mut Tally) + 'a>);
 
 fn main() -> ExitCode {
+    gannetrope::with_stack(run_groups)
+}
+
+fn run_groups() -> ExitCode {
     let home = Path::new(env!("CARGO_MANIFEST_DIR"));
     let library = path("GANNETROPE_LIB_DIR", home.join("../target/staticlib"));
     let vectors = path("GANNETROPE_VECTORS", home.join("vectors"));

@@ -1,14 +1,9 @@
 //! The judging call.
 
-use std::thread;
-
 use crate::report::Slots;
 use crate::schedule::proportional_of;
 use crate::store::MOST_SLOTS;
-use crate::{Columns, Entry, Node, Report, Schedule, Store, raw};
-
-/// The stack that a call runs on. It needs up to 4.7 MB; what it does not touch costs nothing.
-const STACK: usize = 16 << 20;
+use crate::{Columns, Entry, Node, Report, Schedule, Store, raw, with_stack};
 
 /// What a call may use: the width of its numbers and the sizes of its stores.
 #[derive(Clone, Copy, Debug, PartialEq, Eq)]
@@ -63,7 +58,7 @@ impl Judged {
 
 /// Judges whether two gate lists are the same operator up to a factor.
 ///
-/// Every input is fine: what breaks a rule is refused in the report.
+/// Every input is fine: what breaks a rule is refused in the report. [`with_stack`] makes many calls cheaper.
 ///
 /// # Panics
 /// If the system gives no thread to run the call on.
@@ -110,22 +105,14 @@ pub fn judge_in(
     first: Columns<'_>,
     second: Columns<'_>,
 ) -> Report {
-    // The caller's own stack may be too short, so the call gets one that is long enough for every input.
-    thread::scope(|scope| {
-        thread::Builder::new()
-            .stack_size(STACK)
-            .spawn_scoped(scope, || call(list1, list2, schedule, w, first, second))
-            .expect("a thread to judge on")
-            .join()
-            .expect("the call does not panic")
-    })
+    with_stack(|| call(list1, list2, schedule, w, first, second))
 }
 
 #[rustfmt::skip]
 fn call(list1: &[u8], list2: &[u8], schedule: &[u8], w: u32, first: Columns<'_>, second: Columns<'_>) -> Report {
     let mut slots = Slots::default();
     // SAFETY: each pointer comes with its own slice's length; the columns and the slots are borrowed mutably, so none
-    // overlaps another or a list; this thread's stack is longer than the call needs.
+    // overlaps another or a list; `with_stack` leaves more stack than the call needs.
     let status = unsafe {
         raw::gannetrope_judge(
             list1.as_ptr(), list1.len(),

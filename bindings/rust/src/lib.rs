@@ -27,9 +27,11 @@ mod judge;
 pub mod raw;
 mod report;
 mod schedule;
+mod stack;
 mod store;
 
 pub use judge::{Judged, Limits, judge, judge_in};
 pub use report::{Entry, Refusal, Report, Verdict};
 pub use schedule::{MOST_GATES, Schedule, fill_proportional, proportional};
+pub use stack::with_stack;
 pub use store::{Columns, MOST_SLOTS, Node, Store};
