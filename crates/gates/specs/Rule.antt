@@ -8,7 +8,8 @@ use lib.ListN.{set}
 use Rattle.algebra.specs.declared.Entry.{Entry}
 use Rattle.algebra.specs.Entry.{𝟘, 𝟙, neg, _⊕_, _⊖_, turned, w8^}
 use Rattle.algebra.specs.Matrix.{Bits}
-use Rattle.gates.specs.Gate.{Kind, X, Y, Z, H, S, S†, T, T†, Pair, CNOT, CZ, Gate, on, pair, Meant, one, two, unknown, meant, is, bit, table, small, small-pair, inverse-kind}
+use Rattle.gates.specs.Gate.{Kind, X, Y, Z, H, S, S†, T, T†, Pair, CNOT, CZ, Gate, on, pair, Meant, one, two, unknown, meant}
+use Rattle.gates.specs.Gate.{is, bit, table, small, small-pair, inverse-kind}
 use Rattle.gates.specs.declared.Phases.{Phases}
 use Rattle.gates.specs.declared.Rule.{Rule}
 use Rattle.gates.specs.declared.Decision.{Decision}

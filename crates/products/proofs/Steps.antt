@@ -92,7 +92,8 @@ module _ (plan : List ℕ) (cols : List (List ℕ)) (vals : List (List ℤ)) (ro
   begins w fresh = record {
     four = ap length (fresh .tally);
     table = fresh .table;
-    filled = rw (building-is w (builds w fresh)) (subst (λ (t : Store Entry). Filled P w (building t)) (sym (stores-none w fresh)) (fresh .nodes, fresh .values));
+    filled = rw (building-is w (builds w fresh))
+        (subst (λ (t : Store Entry). Filled P w (building t)) (sym (stores-none w fresh)) (fresh .nodes, fresh .values));
     right = record { right = λ σ place some. absurd (some (recalled-zeros P (w .memo) σ (fresh .table .sizes) place (fresh .blank))) };
   }
 

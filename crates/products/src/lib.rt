@@ -25,8 +25,10 @@ pub fn multiply(
     requires { ⌜ Task (now plan) (map now (now src)) (map now (now values)) root ⌝ }
     requires { ⌜ Fresh (now plan) (work (now level) (now low) (now high) (now terminals) (now «node_index») (now «value_index») (now memo) (now tally)) ⌝ }
     ensures { λ r. ⌜ Multiplied (now (plan .entry)) (map now (now (src .entry))) (map now (now (values .entry))) root
-        (work (now (level .entry)) (now (low .entry)) (now (high .entry)) (now (terminals .entry)) (now («node_index» .entry)) (now («value_index» .entry)) (now (memo .entry)) (now (tally .entry)))
-        (work (now (level .exit)) (now (low .exit)) (now (high .exit)) (now (terminals .exit)) (now («node_index» .exit)) (now («value_index» .exit)) (now (memo .exit)) (now (tally .exit))) r ⌝ }
+        (work (now (level .entry)) (now (low .entry)) (now (high .entry)) (now (terminals .entry))
+        (now («node_index» .entry)) (now («value_index» .entry)) (now (memo .entry)) (now (tally .entry)))
+        (work (now (level .exit)) (now (low .exit)) (now (high .exit)) (now (terminals .exit))
+        (now («node_index» .exit)) (now («value_index» .exit)) (now (memo .exit)) (now (tally .exit))) r ⌝ }
 {
     let at = tables::slot(plan, root, root, WAITING);
     walks::hand_over(

@@ -49,7 +49,8 @@ counted m p i j (suc left) hi hj all =
     step-counted (next-step m p i j) (next-within m p i j hi hj (omega arith))
     (λ next. counted m p (i + 1 - next-step m p i j) (j + next-step m p i j) left (next .first) (next .second) (omega arith))
   where
-    step-counted : (step : ℕ) → Next m p i j step → (Next m p i j step → Counted m p (i + 1 - step) (j + step) (steps-from m p (i + 1 - step) (j + step) left)) →
+    step-counted : (step : ℕ) → Next m p i j step →
+        (Next m p i j step → Counted m p (i + 1 - step) (j + step) (steps-from m p (i + 1 - step) (j + step) left)) →
         Counted m p i j (step ∷ steps-from m p (i + 1 - step) (j + step) left)
     step-counted zero next rest =
         let r = rest next in

@@ -96,7 +96,8 @@ fn plan_step(
 )
     requires { ⌜ Planning action n used × ValueColumns (now a) (now b) (now c) (now d) (used .values) ⌝ }
     ensures { λ _. ⌜ now (plan .exit)
-        ≡ planned action n sizes used (zero-ref (entries-of (now (a .entry)) (now (b .entry)) (now (c .entry)) (now (d .entry)) (used .values))) (now (plan .entry)) ⌝ }
+        ≡ planned action n sizes used (zero-ref (entries-of
+        (now (a .entry)) (now (b .entry)) (now (c .entry)) (now (d .entry)) (used .values))) (now (plan .entry)) ⌝ }
 {
     let zero = diagrams::zero_of(a, b, c, d, used.values);
     lay_out(zero, 2 * n, sizes, used, plan);
@@ -153,8 +154,10 @@ fn walk<'s>(
     requires { ⌜ Fresh (now plan) (work (now level) (now low) (now high) (now terminals) (now «node_index») (now «value_index») (now memo) (now tally)) ⌝ }
     ensures { λ r. ⌜ Walked (now (plan .entry)) (now («src_level» .entry) ∷ now («src_low» .entry) ∷ now («src_high» .entry) ∷ [])
         (now («src_a» .entry) ∷ now («src_b» .entry) ∷ now («src_c» .entry) ∷ now («src_d» .entry) ∷ []) root
-        (work (now (level .entry)) (now (low .entry)) (now (high .entry)) (now (terminals .entry)) (now («node_index» .entry)) (now («value_index» .entry)) (now (memo .entry)) (now (tally .entry)))
-        (work (now (level .exit)) (now (low .exit)) (now (high .exit)) (now (terminals .exit)) (now («node_index» .exit)) (now («value_index» .exit)) (now (memo .exit)) (now (tally .exit))) ⌝ }
+        (work (now (level .entry)) (now (low .entry)) (now (high .entry)) (now (terminals .entry))
+        (now («node_index» .entry)) (now («value_index» .entry)) (now (memo .entry)) (now (tally .entry)))
+        (work (now (level .exit)) (now (low .exit)) (now (high .exit)) (now (terminals .exit))
+        (now («node_index» .exit)) (now («value_index» .exit)) (now (memo .exit)) (now (tally .exit))) ⌝ }
 {
     let nodes = [src_level, src_low, src_high];
     let values = [src_a, src_b, src_c, src_d];
@@ -206,7 +209,8 @@ pub fn take_step<'s>(
         (columns (now level) (now low) (now high) (now a) (now b) (now c) (now d))
         (now terminals) (now «node_index») (now «value_index») (now memo) ⌝ }
     ensures { λ _. ⌜ Left action n sizes used
-        (columns (now («src_level» .entry)) (now («src_low» .entry)) (now («src_high» .entry)) (now («src_a» .entry)) (now («src_b» .entry)) (now («src_c» .entry)) (now («src_d» .entry)))
+        (columns (now («src_level» .entry)) (now («src_low» .entry)) (now («src_high» .entry))
+        (now («src_a» .entry)) (now («src_b» .entry)) (now («src_c» .entry)) (now («src_d» .entry)))
         (columns (now (level .entry)) (now (low .entry)) (now (high .entry)) (now (a .entry)) (now (b .entry)) (now (c .entry)) (now (d .entry)))
         (now (terminals .entry)) (now («node_index» .entry)) (now («value_index» .entry)) (now (memo .entry))
         (columns (now (level .exit)) (now (low .exit)) (now (high .exit)) (now (a .exit)) (now (b .exit)) (now (c .exit)) (now (d .exit)))

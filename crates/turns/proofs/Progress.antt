@@ -15,7 +15,8 @@ use Rattle.transitions.specs.declared.State.{State}
 use Rattle.transitions.specs.Plan.{Plan}
 use Rattle.transitions.specs.State.{made, inside}
 use Rattle.transitions.proofs.Walks.{made-extends}
-use Rattle.turns.specs.Progress.{FULL, OUT, Progress, building, full, out, roomy, node-over, Walks, built, filled, left, still-full, left-full, gone, Finish, low-out, high-out, no-more, joined, overflows}
+use Rattle.turns.specs.Progress.{FULL, OUT, Progress, building, full, out, roomy, node-over, Walks, built, filled, left, still-full, left-full, gone}
+use Rattle.turns.specs.Progress.{Finish, low-out, high-out, no-more, joined, overflows}
 
 -- ---- answers
 

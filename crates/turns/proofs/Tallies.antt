@@ -54,7 +54,9 @@ module _ {A : Type 0} {same : A → A → Bool} (𝓓 : Decides same) (blank x :
   put-counted {Held} {Unchanged} {k} {r} {tally} {tally′} injective small in-tally used is put = by-room (decLe (length (keep same x l)) N)
     where
       by-room : Dec (length (keep same x l) ≤ N) → Counted Held k r tally tally′
-      by-room (no less) = let (answered, _) = put .missing (omega arith) in over (omega arith) answered (is ∙ sym (tallied-full k (answer (getD tally k 0)) r tally answered))
+      by-room (no less) =
+          let (answered, _) = put .missing (omega arith) in
+          over (omega arith) answered (is ∙ sym (tallied-full k (answer (getD tally k 0)) r tally answered))
       by-room (yes room) = fits room (put .kept room .0) below (put .kept room .1) (by-slot (ℕ-discrete r (answer (getD tally k 0))))
         where
           below : r < OUT

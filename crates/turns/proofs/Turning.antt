@@ -123,7 +123,8 @@ module _ (plan : List ℕ) (cols : List (List ℕ)) (vals : List (List ℤ)) whe
   next-ready {σ = σ} w′ b at′ τ asking work is slot = record {
     valid-plan = asking .ready .valid-plan;
     fit = asking .ready .fit;
-    valid-state = rw (is, asking .asks) (next-valid P source (asking .ready .valid-plan) b σ (asking .ready .valid-state) (rw (← asking .asks) (asking .below)));
+    valid-state = rw (is, asking .asks)
+        (next-valid P source (asking .ready .valid-plan) b σ (asking .ready .valid-state) (rw (← asking .asks) (asking .below)));
     source = asking .ready .source;
     node-span = asking .ready .node-span;
     value-span = asking .ready .value-span;

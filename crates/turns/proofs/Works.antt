@@ -12,7 +12,8 @@ use Rattle.transitions.specs.declared.State.{State}
 use Rattle.transitions.specs.Plan.{Plan}
 use Rattle.transitions.specs.State.{made}
 use Rattle.transitions.proofs.Walks.{made-extends, made-again}
-use Rattle.turns.specs.Progress.{OUT, Progress, building, full, out, roomy, Walks, built, filled, left, still-full, left-full, gone, Finish, low-out, high-out, no-more, joined, overflows}
+use Rattle.turns.specs.Progress.{OUT, Progress, building, full, out, roomy, Walks, built, filled, left, still-full, left-full, gone}
+use Rattle.turns.specs.Progress.{Finish, low-out, high-out, no-more, joined, overflows}
 use Rattle.turns.specs.Work.{Right}
 use Rattle.turns.proofs.Progress.{below-out, made-walks}
 
@@ -34,7 +35,8 @@ right-walks plan s σ out room r = gone
 -- ---- a walk leaves right answers right
 
 -- what is in a store is in every store that holds more
-right-extends : (plan : Plan) (s : Store Entry) (τ : State) (a : ℕ) {t u : Store Entry} → Extends t u → Right plan s (building t) τ a → Right plan s (building u) τ a
+right-extends : (plan : Plan) (s : Store Entry) (τ : State) (a : ℕ) {t u : Store Entry} → Extends t u
+    → Right plan s (building t) τ a → Right plan s (building u) τ a
 right-extends plan s τ a {t} {u} grown right =
     let same = right .1 in
     let held : Extends (made plan s τ t .store) u = subst (λ (D : Diagram Entry). Extends (D .store) u) (sym same) grown in

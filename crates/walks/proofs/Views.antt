@@ -18,6 +18,7 @@ either (inr b) f g = g b
 
 -- the state that a bit leads to, where the columns hold the source
 pub next-is : (plan : List ℕ) (cols : List (List ℕ)) (vals : List (List ℤ)) {w : Work} {at lv : ℕ} {σ : State} (b : Bool) → Asking plan cols vals w at lv σ
-    → (τ : State) → Reading-both cols (σ .x) (σ .y) (λ s. τ ≡ next-state (plan-of plan) s lv b σ) → τ ≡ next-state (plan-of plan) (source-in plan cols vals) lv b σ
+    → (τ : State) → Reading-both cols (σ .x) (σ .y) (λ s. τ ≡ next-state (plan-of plan) s lv b σ)
+    → τ ≡ next-state (plan-of plan) (source-in plan cols vals) lv b σ
 next-is plan cols vals b asking τ reading =
     let ready = asking .ready in reading (source-in plan cols vals) (ready .source .nodes) (ready .valid-state .x-refers) (ready .valid-state .y-refers)

@@ -29,9 +29,11 @@ pub fn hand_over(
         (work (now level) (now low) (now high) (now terminals) (now «node_index») (now «value_index») (now memo) (now tally))
         at (numbered x y mode) ⌝ }
     ensures { λ r. ⌜ Walked (now (plan .entry)) (map now (now (src .entry))) (map now (now (values .entry)))
-        (work (now (level .entry)) (now (low .entry)) (now (high .entry)) (now (terminals .entry)) (now («node_index» .entry)) (now («value_index» .entry)) (now (memo .entry)) (now (tally .entry)))
+        (work (now (level .entry)) (now (low .entry)) (now (high .entry)) (now (terminals .entry))
+        (now («node_index» .entry)) (now («value_index» .entry)) (now (memo .entry)) (now (tally .entry)))
         (numbered x y mode) r
-        (work (now (level .exit)) (now (low .exit)) (now (high .exit)) (now (terminals .exit)) (now («node_index» .exit)) (now («value_index» .exit)) (now (memo .exit)) (now (tally .exit))) ⌝ }
+        (work (now (level .exit)) (now (low .exit)) (now (high .exit)) (now (terminals .exit))
+        (now («node_index» .exit)) (now («value_index» .exit)) (now (memo .exit)) (now (tally .exit))) ⌝ }
 {
     if tally[2] > 1 {
         return OUT;
@@ -115,9 +117,11 @@ fn row(
         (work (now level) (now low) (now high) (now terminals) (now «node_index») (now «value_index») (now memo) (now tally))
         at lv (numbered x y mode) ⌝ }
     ensures { λ r. ⌜ Walked (now (plan .entry)) (map now (now (src .entry))) (map now (now (values .entry)))
-        (work (now (level .entry)) (now (low .entry)) (now (high .entry)) (now (terminals .entry)) (now («node_index» .entry)) (now («value_index» .entry)) (now (memo .entry)) (now (tally .entry)))
+        (work (now (level .entry)) (now (low .entry)) (now (high .entry)) (now (terminals .entry))
+        (now («node_index» .entry)) (now («value_index» .entry)) (now (memo .entry)) (now (tally .entry)))
         (numbered x y mode) r
-        (work (now (level .exit)) (now (low .exit)) (now (high .exit)) (now (terminals .exit)) (now («node_index» .exit)) (now («value_index» .exit)) (now (memo .exit)) (now (tally .exit))) ⌝ }
+        (work (now (level .exit)) (now (low .exit)) (now (high .exit)) (now (terminals .exit))
+        (now («node_index» .exit)) (now («value_index» .exit)) (now (memo .exit)) (now (tally .exit))) ⌝ }
 {
     let a = transitions::next(src, plan, lv, 0, x, y, mode);
     let a_at = tables::slot(plan, a.x, a.y, a.mode);
@@ -204,9 +208,11 @@ fn column(
         (work (now level) (now low) (now high) (now terminals) (now «node_index») (now «value_index») (now memo) (now tally))
         at lv (numbered x y mode) ⌝ }
     ensures { λ r. ⌜ Walked (now (plan .entry)) (map now (now (src .entry))) (map now (now (values .entry)))
-        (work (now (level .entry)) (now (low .entry)) (now (high .entry)) (now (terminals .entry)) (now («node_index» .entry)) (now («value_index» .entry)) (now (memo .entry)) (now (tally .entry)))
+        (work (now (level .entry)) (now (low .entry)) (now (high .entry)) (now (terminals .entry))
+        (now («node_index» .entry)) (now («value_index» .entry)) (now (memo .entry)) (now (tally .entry)))
         (numbered x y mode) r
-        (work (now (level .exit)) (now (low .exit)) (now (high .exit)) (now (terminals .exit)) (now («node_index» .exit)) (now («value_index» .exit)) (now (memo .exit)) (now (tally .exit))) ⌝ }
+        (work (now (level .exit)) (now (low .exit)) (now (high .exit)) (now (terminals .exit))
+        (now («node_index» .exit)) (now («value_index» .exit)) (now (memo .exit)) (now (tally .exit))) ⌝ }
 {
     let a = transitions::next(src, plan, lv, 0, x, y, mode);
     let a_at = tables::slot(plan, a.x, a.y, a.mode);

@@ -82,7 +82,11 @@ returns-3 c =
     record {
       past = λ over. absurd (over (s .before .if1 .left));
       alike = λ _ same. absurd (s .if2 .left same);
-      apart = λ _ _. (tallied-full 0 (2 * getD (start s .args .tally .now) 0 0 + 1) (call .make-node .result) (start s .args .tally .now) (c .if3 .taken), call .make-node .ensures);
+      apart = λ _ _. (
+        tallied-full 0 (2 * getD (start s .args .tally .now) 0 0 + 1) (call .make-node .result) (start s .args .tally .now)
+            (c .if3 .taken),
+        call .make-node .ensures,
+      );
     }
 
 mul-if4 : tie.Need-mul-if4
@@ -116,7 +120,11 @@ returns-4 c =
     record {
       past = λ over. absurd (over (s .before .if1 .left));
       alike = λ _ same. absurd (s .if2 .left same);
-      apart = λ _ _. (tallied-new 0 (2 * getD (start s .args .tally .now) 0 0 + 1) (call .make-node .result) (start s .args .tally .now) (c .before .if3 .left) (c .if4 .taken), call .make-node .ensures);
+      apart = λ _ _. (
+        tallied-new 0 (2 * getD (start s .args .tally .now) 0 0 + 1) (call .make-node .result) (start s .args .tally .now)
+            (c .before .if3 .left) (c .if4 .taken),
+        call .make-node .ensures,
+      );
     }
 
 same-length-9 : tie.Need-same-length-9
@@ -138,7 +146,11 @@ returns-5 c =
     record {
       past = λ over. absurd (over (s .before .if1 .left));
       alike = λ _ same. absurd (s .if2 .left same);
-      apart = λ _ _. (tallied-same 0 (2 * getD (start s .args .tally .now) 0 0 + 1) (call .make-node .result) (start s .args .tally .now) (c .before .if3 .left) (c .if4 .left), call .make-node .ensures);
+      apart = λ _ _. (
+        tallied-same 0 (2 * getD (start s .args .tally .now) 0 0 + 1) (call .make-node .result) (start s .args .tally .now)
+            (c .before .if3 .left) (c .if4 .left),
+        call .make-node .ensures,
+      );
     }
 
 pub join-spec : {M : Type 1} → statement M

@@ -66,7 +66,11 @@ returns-2 c =
     let s = asked call in
     record {
       past = λ over. absurd (over (s .if1 .left));
-      made = λ _. (tallied-full 1 (2 * getD (start s .args .tally .now) 1 0) (call .make-value .result) (start s .args .tally .now) (c .if2 .taken), call .make-value .ensures);
+      made = λ _. (
+        tallied-full 1 (2 * getD (start s .args .tally .now) 1 0) (call .make-value .result) (start s .args .tally .now)
+            (c .if2 .taken),
+        call .make-value .ensures,
+      );
     }
 
 mul-if3 : tie.Need-mul-if3
@@ -90,7 +94,11 @@ returns-3 c =
     let s = asked call in
     record {
       past = λ over. absurd (over (s .if1 .left));
-      made = λ _. (tallied-new 1 (2 * getD (start s .args .tally .now) 1 0) (call .make-value .result) (start s .args .tally .now) (c .before .if2 .left) (c .if3 .taken), call .make-value .ensures);
+      made = λ _. (
+        tallied-new 1 (2 * getD (start s .args .tally .now) 1 0) (call .make-value .result) (start s .args .tally .now)
+            (c .before .if2 .left) (c .if3 .taken),
+        call .make-value .ensures,
+      );
     }
 
 same-length-5 : tie.Need-same-length-5
@@ -105,7 +113,11 @@ returns-4 c =
     let s = asked call in
     record {
       past = λ over. absurd (over (s .if1 .left));
-      made = λ _. (tallied-same 1 (2 * getD (start s .args .tally .now) 1 0) (call .make-value .result) (start s .args .tally .now) (c .before .if2 .left) (c .if3 .left), call .make-value .ensures);
+      made = λ _. (
+        tallied-same 1 (2 * getD (start s .args .tally .now) 1 0) (call .make-value .result) (start s .args .tally .now)
+            (c .before .if2 .left) (c .if3 .left),
+        call .make-value .ensures,
+      );
     }
 
 pub terminal-spec : {M : Type 1} → statement M

@@ -100,7 +100,8 @@ module _ (t : ℕ) where
       (omega (arith, e .pre .0, fall), row-low-ready s)
 
   -- recalled or walked
-  row-low : (c : row-lts.Joined1 row-calls (row-at t) row.Post) → let s = c .before .before .before in let e = s .before .before .before .before .before .before .before .before .args in
+  row-low : (c : row-lts.Joined1 row-calls (row-at t) row.Post) → let s = c .before .before .before in
+      let e = s .before .before .before .before .before .before .before .before .args in
       Walked (e .plan .now) (map now (e .src .now)) (map now (e .values .now))
       (work (e .level .now) (e .low .now) (e .high .now) (e .terminals .now) (e .node-index .now) (e .value-index .now) (e .memo .now) (e .tally .now))
       (s .before .next .result) (c .if1 .l)
@@ -111,10 +112,13 @@ module _ (t : ℕ) where
       (recalled-walked _ _ _ _ _ (row-low-ready (c .before .before .before)) (c .before .recall .ensures) (y .0 .left)))
 
   row-next-requires-2 : row-lts.Need-next-requires-2 row-calls (row-at t) row.Post
-  row-next-requires-2 c κs = let e = c .before .before .before .before .before .before .before .before .before .before .before in (omega arith, ready-usable _ _ _ (e .pre .1 .ready))
+  row-next-requires-2 c κs =
+      let e = c .before .before .before .before .before .before .before .before .before .before .before in
+      (omega arith, ready-usable _ _ _ (e .pre .1 .ready))
 
   row-slot-requires-2 : row-lts.Need-slot-requires-2 row-calls (row-at t) row.Post
-  row-slot-requires-2 c κs = c .before .before .before .before .before .before .before .before .before .before .before .before .pre .1 .ready .work .table .sizes
+  row-slot-requires-2 c κs =
+      c .before .before .before .before .before .before .before .before .before .before .before .before .pre .1 .ready .work .table .sizes
 
   -- the state after the bit 1
   row-high-ready : (c : row-lts.After-slot2 row-calls (row-at t) row.Post) →
@@ -139,7 +143,8 @@ module _ (t : ℕ) where
       (omega (arith, e .pre .0, fall), row-high-ready s)
 
   row-high : (c : row-lts.Joined2 row-calls (row-at t) row.Post) →
-      let s = c .before .before .before in let j = s .before .before in let e = j .before .before .before .before .before .before .before .before .before .before .before .args in
+      let s = c .before .before .before in let j = s .before .before in
+      let e = j .before .before .before .before .before .before .before .before .before .before .before .args in
       Walked (e .plan .now) (map now (e .src .now)) (map now (e .values .now))
       (work (j .if1 .level) (j .if1 .low) (j .if1 .high) (j .if1 .terminals) (j .if1 .node-index) (j .if1 .value-index) (j .if1 .memo) (j .if1 .tally))
       (s .before .next2 .result) (c .if2 .h)
@@ -157,7 +162,9 @@ module _ (t : ℕ) where
       (nodes-ready _ _ _ high, record { table = high .work .table; place = ready-place _ _ _ (a .ready); slot = a .ready .slot })
 
   -- the lists are as long after the last call as before it
-  row-room : (c : row-lts.After-slice-known23 row-calls (row-at t) row.Post) → let j = c .before .before .before .before .before .before .before .before .before .before .before .before .before .before .before .before .before in let f = c .before .before .before .before .before .before .before .before .before .before .finish .last .1 .1 .1 .1 .1 .1 .1 .1 in
+  row-room : (c : row-lts.After-slice-known23 row-calls (row-at t) row.Post) →
+      let j = c .before .before .before .before .before .before .before .before .before .before .before .before .before .before .before .before .before in
+      let f = c .before .before .before .before .before .before .before .before .before .before .finish .last .1 .1 .1 .1 .1 .1 .1 .1 in
       SameRoom
       (work (j .if2 .level) (j .if2 .low) (j .if2 .high) (j .if2 .terminals) (j .if2 .node-index) (j .if2 .value-index) (j .if2 .memo) (j .if2 .tally))
       (work (f .0) (f .1 .0) (f .1 .1 .0) (j .if2 .terminals) (f .1 .1 .1 .0) (j .if2 .value-index) (f .1 .1 .1 .1 .0) (f .1 .1 .1 .1 .1 .0))
@@ -196,7 +203,8 @@ module _ (t : ℕ) where
   column-slot-requires c κs = c .before .before .before .before .before .before .before .pre .1 .ready .work .table .sizes
 
   -- the state after the bit 0
-  column-low-ready : (c : column-lts.After-slot column-calls (column-at t) column.Post) → let e = c .before .before .before .before .before .before .before .before .args in
+  column-low-ready : (c : column-lts.After-slot column-calls (column-at t) column.Post) →
+      let e = c .before .before .before .before .before .before .before .before .args in
       Ready (e .plan .now) (map now (e .src .now)) (map now (e .values .now))
       (work (e .level .now) (e .low .now) (e .high .now) (e .terminals .now) (e .node-index .now) (e .value-index .now) (e .memo .now) (e .tally .now))
       (c .slot .result) (c .before .next .result)
@@ -216,7 +224,8 @@ module _ (t : ℕ) where
       (omega (arith, e .pre .0, fall), column-low-ready s)
 
   -- recalled or walked
-  column-low : (c : column-lts.Joined1 column-calls (column-at t) column.Post) → let s = c .before .before .before in let e = s .before .before .before .before .before .before .before .before .args in
+  column-low : (c : column-lts.Joined1 column-calls (column-at t) column.Post) → let s = c .before .before .before in
+      let e = s .before .before .before .before .before .before .before .before .args in
       Walked (e .plan .now) (map now (e .src .now)) (map now (e .values .now))
       (work (e .level .now) (e .low .now) (e .high .now) (e .terminals .now) (e .node-index .now) (e .value-index .now) (e .memo .now) (e .tally .now))
       (s .before .next .result) (c .if1 .l)
@@ -227,10 +236,13 @@ module _ (t : ℕ) where
       (recalled-walked _ _ _ _ _ (column-low-ready (c .before .before .before)) (c .before .recall .ensures) (y .0 .left)))
 
   column-next-requires-2 : column-lts.Need-next-requires-2 column-calls (column-at t) column.Post
-  column-next-requires-2 c κs = let e = c .before .before .before .before .before .before .before .before .before .before .before in (omega arith, ready-usable _ _ _ (e .pre .1 .ready))
+  column-next-requires-2 c κs =
+      let e = c .before .before .before .before .before .before .before .before .before .before .before in
+      (omega arith, ready-usable _ _ _ (e .pre .1 .ready))
 
   column-slot-requires-2 : column-lts.Need-slot-requires-2 column-calls (column-at t) column.Post
-  column-slot-requires-2 c κs = c .before .before .before .before .before .before .before .before .before .before .before .before .pre .1 .ready .work .table .sizes
+  column-slot-requires-2 c κs =
+      c .before .before .before .before .before .before .before .before .before .before .before .before .pre .1 .ready .work .table .sizes
 
   -- the state after the bit 1
   column-high-ready : (c : column-lts.After-slot2 column-calls (column-at t) column.Post) →
@@ -255,7 +267,8 @@ module _ (t : ℕ) where
       (omega (arith, e .pre .0, fall), column-high-ready s)
 
   column-high : (c : column-lts.Joined2 column-calls (column-at t) column.Post) →
-      let s = c .before .before .before in let j = s .before .before in let e = j .before .before .before .before .before .before .before .before .before .before .before .args in
+      let s = c .before .before .before in let j = s .before .before in
+      let e = j .before .before .before .before .before .before .before .before .before .before .before .args in
       Walked (e .plan .now) (map now (e .src .now)) (map now (e .values .now))
       (work (j .if1 .level) (j .if1 .low) (j .if1 .high) (j .if1 .terminals) (j .if1 .node-index) (j .if1 .value-index) (j .if1 .memo) (j .if1 .tally))
       (s .before .next2 .result) (c .if2 .h)
@@ -273,7 +286,9 @@ module _ (t : ℕ) where
       (nodes-ready _ _ _ high, record { table = high .work .table; place = ready-place _ _ _ (a .ready); slot = a .ready .slot })
 
   -- the lists are as long after the last call as before it
-  column-room : (c : column-lts.After-slice-known23 column-calls (column-at t) column.Post) → let j = c .before .before .before .before .before .before .before .before .before .before .before .before .before .before .before .before .before in let f = c .before .before .before .before .before .before .before .before .before .before .finish .last .1 .1 .1 .1 .1 .1 .1 .1 in
+  column-room : (c : column-lts.After-slice-known23 column-calls (column-at t) column.Post) →
+      let j = c .before .before .before .before .before .before .before .before .before .before .before .before .before .before .before .before .before in
+      let f = c .before .before .before .before .before .before .before .before .before .before .finish .last .1 .1 .1 .1 .1 .1 .1 .1 in
       SameRoom
       (work (j .if2 .level) (j .if2 .low) (j .if2 .high) (j .if2 .terminals) (j .if2 .node-index) (j .if2 .value-index) (j .if2 .memo) (j .if2 .tally))
       (work (f .0) (f .1 .0) (f .1 .1 .0) (j .if2 .terminals) (f .1 .1 .1 .0) (j .if2 .value-index) (f .1 .1 .1 .1 .0) (f .1 .1 .1 .1 .1 .0))
@@ -338,7 +353,8 @@ module _ (t : ℕ) where
   hand-over-asked-requires c κs = ready-usable _ _ _ (c .before .before .before .before .before .before .before .before .before .before .pre .1)
 
   -- a state with a question left
-  hand-over-asking : (c : hand-over-lts.After-asked hand-over-calls (hand-over-at t) hand-over.Post) → let e = c .before .before .before .before .before .before .before .before .before .before .before .args in
+  hand-over-asking : (c : hand-over-lts.After-asked hand-over-calls (hand-over-at t) hand-over.Post) →
+      let e = c .before .before .before .before .before .before .before .before .before .before .before .args in
       Asking (e .plan .now) (map now (e .src .now)) (map now (e .values .now))
       (work (e .level .now) (e .low .now) (e .high .now) (e .terminals .now) (e .node-index .now) (e .value-index .now) (e .memo .now) (e .tally .now))
       (e .at) (c .asked .result) (numbered (e .x) (e .y) (e .mode))
