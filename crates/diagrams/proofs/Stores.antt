@@ -169,7 +169,8 @@ begins-at {B = B} f xs l blank begins i h =
     getD (map f xs) i (f blank) ≡⟨ List·getD-map f xs i blank ⟩
     f (getD xs i blank) ∎
 
-listed-all : {A : Type 0} (blank : A) (l : List A) (f : ℕ → A) → ((i : ℕ) → i < length l → f i ≡ getD l i blank) → listed (length l) f ≡ l
+-- a list that agrees with another everywhere is that one
+pub listed-all : {A : Type 0} (blank : A) (l : List A) (f : ℕ → A) → ((i : ℕ) → i < length l → f i ≡ getD l i blank) → listed (length l) f ≡ l
 listed-all blank l f is = ext-getD blank (listed (length l) f) l (length-listed (length l) f)
     (λ i h. let below : i < length l = omega (arith, length-listed (length l) f) in getD-listed (length l) f blank i below ∙ is i below)
 

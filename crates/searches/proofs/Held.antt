@@ -5,7 +5,6 @@ use mathlib.Core.List.{List, _++_, map}
 use Prim.Native.Nat.{ℕ, _-_, _<_, _≤_}
 use native.Mathlib.Omega.{arith}
 use lib.ListN.{length, getD, length-map, List·getD-append, List·getD-map}
-use lib.Seq.{ext-getD}
 use Rattle.algebra.specs.declared.Entry.{Entry}
 use Rattle.algebra.specs.Entry.{𝟘, entry}
 use Rattle.algebra.specs.Matrix.{Matrix}
@@ -14,7 +13,8 @@ use Rattle.diagrams.specs.Columns.{Columns, columns, held, NodeColumns, ValueCo
 use Rattle.diagrams.specs.UniqueTable.{listed, node-in}
 use Rattle.diagrams.proofs.Unique.{Closed, walked}
 use Rattle.diagrams.proofs.References.{ref-of-code}
-use Rattle.diagrams.proofs.Chains.{length-listed, getD-listed}
+use Rattle.diagrams.proofs.Chains.{length-listed}
+use Rattle.diagrams.proofs.Stores.{listed-all}
 use Rattle.diagrams.proofs.Diagrams.{diagram-reduced, diagram-gives}
 use Rattle.miters.specs.Report.{verdict}
 use Rattle.searches.specs.Slots.{store-in, value-at}
@@ -23,10 +23,6 @@ use Rattle.searches.specs.Ready.{Searchable}
 use Rattle.searches.proofs.Verdicts.{verdict-ext}
 
 -- ---- the store in columns that begin with it
-
-listed-all : {A : Type 0} (blank : A) (l : List A) (f : ℕ → A) → ((i : ℕ) → i < length l → f i ≡ getD l i blank) → listed (length l) f ≡ l
-listed-all blank l f is = ext-getD blank (listed (length l) f) l (length-listed (length l) f)
-    (λ i h. let below : i < length l = omega (arith, length-listed (length l) f) in getD-listed (length l) f blank i below ∙ is i below)
 
 -- one number of each element, and whatever comes after
 begins : {A B : Type 0} (f : A → B) (l : List A) (rest : List B) (blank : A) (i : ℕ) → i < length l → getD (map f l ++ rest) i (f blank) ≡ f (getD l i blank)
