@@ -6,8 +6,8 @@ use Prim.Native.Nat.{ℕ, _+_, _≤_, _<_}
 use native.Mathlib.Omega.{arith}
 use lib.ListN.{length, getD, set}
 use lib.Seq.{take-length}
-use Rattle.diagrams.specs.Columns.{over}
-use Rattle.diagrams.proofs.Filling.{filled, filled-none, filled-more, filled-over, filling-length, listed-take, Passing, passes, passed}
+use Rattle.stores.specs.Columns.{over}
+use Rattle.stores.proofs.Filling.{filled, filled-none, filled-more, filled-over, filling-length, listed-take, Passing, passes, passed}
 
 -- the element that goes into a slot
 abbrev source : {A : Type 0} → A → List A → ℕ → A

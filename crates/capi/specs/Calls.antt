@@ -8,7 +8,7 @@ use lib.IntN.{ℤ}
 use lib.ListN.{length}
 use Rattle.schedules.specs.declared.Made.{Made}
 use Rattle.schedules.specs.declared.Made.the-variants.{Steps, Refused}
-use Rattle.diagrams.specs.Columns.{Columns, over}
+use Rattle.stores.specs.Columns.{Columns, over}
 use Rattle.miters.specs.declared.Report.{Report}
 use Rattle.miters.specs.Run.{Outcome}
 use Rattle.capi.specs.Numbers.{numbers-of, entries-of}

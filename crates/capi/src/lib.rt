@@ -7,7 +7,7 @@ ghost use mathlib.Core.Path.{_≡_};
 ghost use Prim.Native.Nat.{_≤_};
 ghost use lib.ListN.{length};
 ghost use Rattle.schedules.specs.Schedule.{made, filled};
-ghost use Rattle.diagrams.specs.Columns.{columns, over};
+ghost use Rattle.stores.specs.Columns.{columns, over};
 ghost use Rattle.judges.specs.Answer.{answer};
 ghost use Rattle.capi.specs.Numbers.{reason-of, numbers-of, entries-of};
 ghost use Rattle.capi.specs.Calls.{Written, returning, judging, steps-or-refusal};

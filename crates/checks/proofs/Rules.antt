@@ -5,7 +5,7 @@ use mathlib.Core.Bool.{Bool, true, false}
 use Prim.Native.Nat.{ℕ, _≤_}
 use lib.ListN.{length}
 use borrow.Author.Tests.{leb-true, eqb-true}
-use Rattle.diagrams.specs.Columns.{Columns}
+use Rattle.stores.specs.Columns.{Columns}
 use Rattle.diagrams.proofs.Tests.{both-true}
 use Rattle.steps.specs.Stepping.{Long}
 use Rattle.checks.specs.declared.Lengths.{Lengths}

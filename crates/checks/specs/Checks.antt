@@ -9,7 +9,7 @@ use Rattle.circuits.specs.declared.Refusal.{Refusal as ListRefusal}
 use Rattle.circuits.specs.Refusals.{base-limits}
 use Rattle.circuits.specs.Reading.{Reading, read, refused as unread, Circuit, decoded}
 use Rattle.schedules.specs.Schedule.{fits}
-use Rattle.diagrams.specs.Columns.{Columns}
+use Rattle.stores.specs.Columns.{Columns}
 use Rattle.miters.specs.declared.Refusal.{Refusal}
 use Rattle.miters.specs.declared.Refusal.the-variants.{Call, Byte}
 use Rattle.checks.specs.declared.Lengths.{Lengths}

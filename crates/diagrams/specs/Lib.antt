@@ -1,4 +1,1 @@
 pub mod Diagram
-pub mod Columns
-pub mod UniqueTable
-pub mod Identity

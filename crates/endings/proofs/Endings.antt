@@ -3,7 +3,7 @@
 use mathlib.Core.Path.{_≡_, subst}
 use Prim.Native.Nat.{ℕ, _-_}
 use Rattle.diagrams.specs.Diagram.{node}
-use Rattle.diagrams.specs.Columns.{Columns}
+use Rattle.stores.specs.Columns.{Columns}
 use Rattle.miters.specs.declared.Verdict.{Verdict}
 use Rattle.miters.specs.Report.{verdict}
 use Rattle.miters.specs.Miter.{steps}

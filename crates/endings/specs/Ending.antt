@@ -1,7 +1,7 @@
 -- The end of a run: what is kept of the first store, and the report. Definitions only.
 use Prim.Native.Nat.{ℕ, _-_}
 use Rattle.diagrams.specs.Diagram.{node}
-use Rattle.diagrams.specs.Columns.{Columns}
+use Rattle.stores.specs.Columns.{Columns}
 use Rattle.miters.specs.declared.Report.{Report}
 use Rattle.miters.specs.Report.{verdict, refused}
 use Rattle.searches.specs.Slots.{store-in}

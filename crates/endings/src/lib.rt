@@ -5,7 +5,7 @@ use miters::Verdict;
 use runs::End;
 use steps::Used;
 ghost use mathlib.Core.Path.{_≡_};
-ghost use Rattle.diagrams.specs.Columns.{columns};
+ghost use Rattle.stores.specs.Columns.{columns};
 ghost use Rattle.miters.specs.Report.{refused};
 ghost use Rattle.endings.specs.Ending.{kept, Readable, report-of};
 

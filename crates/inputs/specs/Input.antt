@@ -7,7 +7,7 @@ use lib.ListN.{length, take, drop}
 use Rattle.circuits.specs.Refusals.{ends-early, base-limits}
 use Rattle.circuits.specs.Reading.{Reading, read, refused as unread, Circuit, number, decoded}
 use Rattle.schedules.specs.Schedule.{proportional}
-use Rattle.diagrams.specs.Columns.{Columns, cleared}
+use Rattle.stores.specs.Columns.{Columns, cleared}
 use Rattle.miters.specs.declared.Refusal.the-variants.{Byte}
 use Rattle.miters.specs.declared.Report.{Report}
 use Rattle.miters.specs.Report.{refused}

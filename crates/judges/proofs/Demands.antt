@@ -19,7 +19,7 @@ use Rattle.circuits.proofs.Readings.{read-value}
 use Rattle.circuits.proofs.Within.{decoded-within}
 use Rattle.schedules.specs.Schedule.{fits}
 use Rattle.diagrams.specs.Diagram.{levels, diagram}
-use Rattle.diagrams.specs.Columns.{Columns}
+use Rattle.stores.specs.Columns.{Columns}
 use Rattle.diagrams.proofs.Diagrams.{diagram-reduced, diagram-unique}
 use Rattle.miters.specs.declared.Refusal.{Refusal}
 use Rattle.miters.specs.declared.Report.{Report}

@@ -11,7 +11,7 @@ use Rattle.circuits.specs.Reading.{Circuit}
 use Rattle.circuits.specs.Within.{Within}
 use Rattle.circuits.proofs.Remaining.{Remaining, decoded-accepted}
 use Rattle.circuits.proofs.Within.{decoded-within}
-use Rattle.diagrams.specs.Columns.{Columns}
+use Rattle.stores.specs.Columns.{Columns}
 use Rattle.miters.specs.declared.Refusal.{Refusal}
 use Rattle.miters.specs.declared.Report.{Report}
 use Rattle.miters.specs.Miter.{steps}

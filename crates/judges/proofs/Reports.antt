@@ -8,8 +8,8 @@ use lib.IntN.{ℤ, pos}
 use lib.ListN.{length, take, replicate}
 use Rattle.algebra.specs.Matrix.{Matrix}
 use Rattle.diagrams.specs.Diagram.{node, diagram}
-use Rattle.diagrams.specs.Columns.{Columns, column, held, cleared, wiped, NodeColumns, ValueColumns}
-use Rattle.diagrams.proofs.Stores.{wiped-held}
+use Rattle.stores.specs.Columns.{Columns, column, held, cleared, wiped, NodeColumns, ValueColumns}
+use Rattle.stores.proofs.Stores.{wiped-held}
 use Rattle.miters.specs.declared.Report.{Report}
 use Rattle.miters.specs.Report.{verdict, finished}
 use Rattle.miters.specs.Miter.{steps}

@@ -3,7 +3,7 @@
 use mathlib.Core.List.{List}
 use Prim.Native.Nat.{ℕ}
 use lib.ListN.{length}
-use Rattle.diagrams.specs.Columns.{Columns}
+use Rattle.stores.specs.Columns.{Columns}
 use Rattle.miters.specs.Report.{refused}
 use Rattle.miters.specs.Run.{Lent, Outcome, judged}
 use Rattle.checks.specs.Checks.{lengths, Checks, refuses, passes, checks}

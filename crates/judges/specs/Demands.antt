@@ -11,7 +11,7 @@ use Rattle.algebra.specs.Entry.{𝟘, _⊗_, √2^}
 use Rattle.circuits.specs.Refusals.{base-limits}
 use Rattle.circuits.specs.Reading.{read, Circuit, decoded}
 use Rattle.diagrams.specs.Diagram.{Diagram, ReducedOf, levels, entries}
-use Rattle.diagrams.specs.Columns.{Columns, held, cleared}
+use Rattle.stores.specs.Columns.{Columns, held, cleared}
 use Rattle.miters.specs.declared.Refusal.{Refusal}
 use Rattle.miters.specs.declared.Verdict.the-variants.{Equal as equal-with, Refused}
 use Rattle.miters.specs.Miter.{steps, corner, miter, Turns, Equal}

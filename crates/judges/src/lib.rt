@@ -8,7 +8,7 @@ use steps::Sizes;
 use steps::Used;
 ghost use mathlib.Core.Path.{_≡_};
 ghost use lib.ListN.{length};
-ghost use Rattle.diagrams.specs.Columns.{columns};
+ghost use Rattle.stores.specs.Columns.{columns};
 ghost use Rattle.steps.specs.Stepping.{Scratch};
 ghost use Rattle.judges.specs.Answer.{answer};
 ghost use Rattle.judges.specs.Calls.{Passed, AtMost, leaving};
@@ -82,7 +82,7 @@ fn judge_in(
         value_index,
         memo,
     );
-    diagrams::wipe(
+    stores::wipe(
         other_level,
         other_low,
         other_high,
@@ -94,7 +94,7 @@ fn judge_in(
         NOTHING,
     );
     let used = endings::kept(ended);
-    diagrams::wipe(
+    stores::wipe(
         level,
         low,
         high,

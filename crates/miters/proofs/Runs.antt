@@ -19,10 +19,10 @@ use Rattle.algebra.specs.Width.{entryInWidth}
 use Rattle.gates.specs.Gate.{Gate, All-fit}
 use Rattle.schedules.specs.Schedule.{count, only-steps, fits}
 use Rattle.diagrams.specs.Diagram.{node, code, Node, Diagram, ReducedOf, levels, place, rows, columns, entries, diagram}
-use Rattle.diagrams.specs.Columns.{Columns, column, held, cleared}
+use Rattle.stores.specs.Columns.{Columns, column, held, cleared}
 use Rattle.diagrams.proofs.Tests.{both-true, true-both}
 use Rattle.diagrams.proofs.Places.{length-place, length-halves, place-halves}
-use Rattle.diagrams.proofs.Columns.{take-column}
+use Rattle.stores.proofs.Columns.{take-column}
 use Rattle.diagrams.proofs.Diagrams.{diagram-unique}
 use Rattle.miters.specs.declared.Refusal.{Refusal}
 use Rattle.miters.specs.declared.Refusal.the-variants.{Step as at-step}

@@ -11,7 +11,7 @@ use Rattle.algebra.specs.Matrix.{total, product, identity}
 use Rattle.algebra.specs.Width.{inWidth}
 use Rattle.gates.specs.Gate.{Kind, X, Y, Z, H, S, T, CNOT, CZ, Gate, on, pair, matrix}
 use Rattle.diagrams.specs.Diagram.{reduce}
-use Rattle.diagrams.specs.Columns.{Columns, held, cleared}
+use Rattle.stores.specs.Columns.{Columns, held, cleared}
 use Rattle.miters.specs.declared.Refusal.the-variants.{Step}
 use Rattle.miters.specs.declared.Verdict.{Verdict}
 use Rattle.miters.specs.declared.Verdict.the-variants.{Equal, Different, Refused}

@@ -9,7 +9,7 @@ use Rattle.algebra.specs.Matrix.{Matrix, everywhere}
 use Rattle.algebra.specs.Width.{entryInWidth}
 use Rattle.gates.specs.Gate.{Gate}
 use Rattle.diagrams.specs.Diagram.{levels, entries, diagram}
-use Rattle.diagrams.specs.Columns.{Columns, held, cleared}
+use Rattle.stores.specs.Columns.{Columns, held, cleared}
 use Rattle.miters.specs.declared.Refusal.{Refusal}
 use Rattle.miters.specs.declared.Refusal.the-variants.{Step as at-step}
 use Rattle.miters.specs.declared.Report.{Report}

@@ -11,7 +11,7 @@ use Rattle.algebra.specs.declared.Entry.{Entry}
 use Rattle.algebra.specs.Matrix.{Matrix}
 use Rattle.gates.specs.Gate.{Gate}
 use Rattle.diagrams.specs.Diagram.{code, Store, Diagram, empty, diagram}
-use Rattle.diagrams.specs.UniqueTable.{listed}
+use Rattle.uniques.specs.UniqueTable.{listed}
 use Rattle.miters.specs.Run.{Lent, in-width}
 use Rattle.transitions.specs.declared.State.{State}
 use Rattle.transitions.specs.Plan.{Plan, plan-of}

@@ -9,7 +9,7 @@ use Rattle.algebra.specs.Matrix.{Matrix}
 use Rattle.algebra.specs.Width.{fitWidth}
 use Rattle.gates.specs.Gate.{Gate, Fits}
 use Rattle.diagrams.specs.Diagram.{code, diagram}
-use Rattle.diagrams.specs.UniqueTable.{NodesHeld, ValuesHeld}
+use Rattle.uniques.specs.UniqueTable.{NodesHeld, ValuesHeld}
 use Rattle.miters.specs.Run.{Lent, in-width, has-room}
 use Rattle.transitions.specs.Plan.{plan-of}
 use Rattle.transitions.specs.Source.{SourceHeld}

@@ -8,7 +8,7 @@ use native.Mathlib.Omega.{arith}
 use lib.Dec.{eqb}
 use lib.ListN.{length, getD}
 use Rattle.diagrams.specs.Diagram.{diagram}
-use Rattle.diagrams.specs.Columns.{Columns, Holds}
+use Rattle.stores.specs.Columns.{Columns, Holds}
 use Rattle.miters.specs.declared.Refusal.{Refusal}
 use Rattle.miters.specs.declared.Refusal.the-variants.{Step as at-step}
 use Rattle.miters.specs.Miter.{start, Step, steps}

@@ -12,11 +12,11 @@ use lib.ListN.{length}
 use Rattle.algebra.specs.declared.Entry.{Entry}
 use Rattle.algebra.specs.Matrix.{identity}
 use Rattle.diagrams.specs.Diagram.{node, Diagram, rooted, diagram}
-use Rattle.diagrams.specs.Columns.{Columns, columns, Holds, written}
-use Rattle.diagrams.specs.Identity.{identity-root, identity-nodes, identity-store}
-use Rattle.diagrams.proofs.Identities.{length-identity}
-use Rattle.diagrams.proofs.IdentityDiagram.{identity-diagram}
-use Rattle.diagrams.proofs.Stores.{written-holds}
+use Rattle.stores.specs.Columns.{Columns, columns, Holds, written}
+use Rattle.stores.specs.Identity.{identity-root, identity-nodes, identity-store}
+use Rattle.stores.proofs.Identities.{length-identity}
+use Rattle.stores.proofs.IdentityDiagram.{identity-diagram}
+use Rattle.stores.proofs.Stores.{written-holds}
 use Rattle.miters.specs.Miter.{start, Step}
 use Rattle.miters.specs.declared.Refusal.the-variants.{Step as at-step}
 use Rattle.miters.specs.Run.{Lent, has-room, stopped, follow, ended}

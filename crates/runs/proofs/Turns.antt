@@ -13,7 +13,7 @@ use lib.Seq.{drop-cons, drop-length}
 use Rattle.algebra.specs.Matrix.{Matrix}
 use Rattle.algebra.specs.Width.{fitWidth}
 use Rattle.gates.specs.Gate.{Gate, halves}
-use Rattle.diagrams.specs.Columns.{Columns}
+use Rattle.stores.specs.Columns.{Columns}
 use Rattle.miters.specs.declared.Refusal.{Refusal}
 use Rattle.miters.specs.declared.Refusal.the-variants.{Step as at-step}
 use Rattle.miters.specs.Miter.{Over, Step, stepped, steps}

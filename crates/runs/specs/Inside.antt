@@ -6,8 +6,8 @@ use Prim.Native.Nat.{ℕ, _*_, _%_, _≤_}
 use lib.Dec.{eqb}
 use lib.IntN.{ℤ}
 use lib.ListN.{length, getD}
-use Rattle.diagrams.specs.Columns.{Columns, written}
-use Rattle.diagrams.specs.Identity.{identity-store}
+use Rattle.stores.specs.Columns.{Columns, written}
+use Rattle.stores.specs.Identity.{identity-store}
 use Rattle.miters.specs.Miter.{start, steps}
 use Rattle.miters.specs.Run.{follow}
 use Rattle.steps.specs.declared.Sizes.{Sizes}

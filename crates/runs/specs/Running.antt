@@ -11,7 +11,7 @@ use Rattle.circuits.specs.Refusals.{base-limits}
 use Rattle.circuits.specs.Within.{Within}
 use Rattle.circuits.proofs.Remaining.{Remaining}
 use Rattle.schedules.specs.Schedule.{fits}
-use Rattle.diagrams.specs.Columns.{Columns}
+use Rattle.stores.specs.Columns.{Columns}
 use Rattle.miters.specs.declared.Refusal.{Refusal}
 use Rattle.miters.specs.Miter.{Over, steps}
 use Rattle.miters.specs.Run.{Lent, Ended, done, stopped, ended}

@@ -4,7 +4,7 @@ use miters::Refusal;
 use steps::Action;
 use steps::Sizes;
 use steps::Used;
-ghost use Rattle.diagrams.specs.Columns.{columns};
+ghost use Rattle.stores.specs.Columns.{columns};
 ghost use Rattle.steps.specs.Stepping as stepping;
 ghost use Rattle.runs.specs.Running.{Task, Left};
 ghost use Rattle.runs.specs.Inside.{current, used-in, Room, Begun, Started, Followed};
@@ -51,10 +51,10 @@ fn begin(
         (now («other_a» .exit)) (now («other_b» .exit)) (now («other_c» .exit)) (now («other_d» .exit))) ⌝ }
 {
     if left % 2 == 0 {
-        diagrams::identity(n, level, low, high, a, b, c, d);
+        stores::identity(n, level, low, high, a, b, c, d);
         return;
     }
-    diagrams::identity(
+    stores::identity(
         n,
         other_level,
         other_low,

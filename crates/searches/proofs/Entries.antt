@@ -11,7 +11,7 @@ use lib.Dec.{eqb}
 use Rattle.algebra.specs.declared.Entry.{Entry}
 use Rattle.algebra.specs.Matrix.{Bits}
 use Rattle.diagrams.specs.Diagram.{node, place}
-use Rattle.diagrams.specs.Columns.{Columns, ValueColumns}
+use Rattle.stores.specs.Columns.{Columns, ValueColumns}
 use Rattle.diagrams.proofs.Places.{length-place}
 use Rattle.miters.specs.Report.{number}
 use Rattle.searches.specs.Slots.{store-in, value-at, cofactor, landing, bits}

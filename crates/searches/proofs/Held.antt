@@ -9,12 +9,12 @@ use Rattle.algebra.specs.declared.Entry.{Entry}
 use Rattle.algebra.specs.Entry.{𝟘, entry}
 use Rattle.algebra.specs.Matrix.{Matrix}
 use Rattle.diagrams.specs.Diagram.{Ref, node, code, ref-of, Node, branch, Store, holding, unused, Tidy, levels, diagram}
-use Rattle.diagrams.specs.Columns.{Columns, columns, held, NodeColumns, ValueColumns}
-use Rattle.diagrams.specs.UniqueTable.{listed, node-in}
+use Rattle.stores.specs.Columns.{Columns, columns, held, NodeColumns, ValueColumns}
+use Rattle.uniques.specs.UniqueTable.{listed, node-in}
 use Rattle.diagrams.proofs.Unique.{Closed, walked}
 use Rattle.diagrams.proofs.References.{ref-of-code}
-use Rattle.diagrams.proofs.Chains.{length-listed}
-use Rattle.diagrams.proofs.Stores.{listed-all}
+use Rattle.uniques.proofs.Chains.{length-listed}
+use Rattle.stores.proofs.Stores.{listed-all}
 use Rattle.diagrams.proofs.Diagrams.{diagram-reduced, diagram-gives}
 use Rattle.miters.specs.Report.{verdict}
 use Rattle.searches.specs.Slots.{store-in, value-at}

@@ -12,12 +12,12 @@ use Rattle.algebra.specs.declared.Entry.{Entry}
 use Rattle.algebra.specs.Entry.{𝟘}
 use Rattle.algebra.specs.Matrix.{Bits}
 use Rattle.diagrams.specs.Diagram.{Ref, value, node, ref-of, Node, Store, unused, node-at, reached, Both, From, Tidy, same-entry}
-use Rattle.diagrams.specs.Columns.{Columns, zero-ref}
-use Rattle.diagrams.specs.UniqueTable.{full, node-in}
+use Rattle.stores.specs.Columns.{Columns, zero-ref}
+use Rattle.uniques.specs.UniqueTable.{full, node-in}
 use Rattle.diagrams.proofs.Tests.{entry-decides, false-apart}
 use Rattle.diagrams.proofs.Keeping.{Kept, found, fresh, kept}
 use Rattle.diagrams.proofs.Unique.{Seen, Closed}
-use Rattle.diagrams.proofs.Chains.{length-listed, getD-listed}
+use Rattle.uniques.proofs.Chains.{length-listed, getD-listed}
 use Rattle.searches.specs.Slots.{store-in, value-at, cofactor, landing}
 use Rattle.searches.specs.Ready.{Used}
 

@@ -9,7 +9,7 @@ use lib.ListN.{getD}
 use lib.Dec.{eqb}
 use borrow.Author.Tests.{eqb-true, eq-eqb, ne-eqb}
 use Rattle.algebra.specs.Matrix.{Bits}
-use Rattle.diagrams.specs.UniqueTable.{full}
+use Rattle.uniques.specs.UniqueTable.{full}
 use Rattle.searches.specs.declared.Task.{Task}
 use Rattle.searches.specs.Slots.{cofactor, landing}
 use Rattle.searches.specs.Ready.{InNodes, Used, Sound}

@@ -11,8 +11,8 @@ use Rattle.algebra.specs.declared.Entry.{Entry}
 use Rattle.algebra.specs.Entry.{𝟘}
 use Rattle.algebra.specs.Matrix.{Bits, Matrix}
 use Rattle.diagrams.specs.Diagram.{Ref, node, ref-of, Store, reached, From, levels}
-use Rattle.diagrams.specs.Columns.{Columns, ValueColumns, zero-ref}
-use Rattle.diagrams.specs.UniqueTable.{full}
+use Rattle.stores.specs.Columns.{Columns, ValueColumns, zero-ref}
+use Rattle.uniques.specs.UniqueTable.{full}
 use Rattle.diagrams.proofs.Places.{levels-double}
 use Rattle.diagrams.proofs.Unique.{Seen}
 use Rattle.miters.specs.declared.Verdict.the-variants.{Equal, Different}

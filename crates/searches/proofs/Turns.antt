@@ -13,7 +13,7 @@ use mir.Val.{Fits}
 use borrow.Author.Tests.{eqb-true, eq-eqb}
 use Rattle.algebra.specs.Matrix.{Bits}
 use Rattle.diagrams.specs.Diagram.{levels}
-use Rattle.diagrams.specs.UniqueTable.{full}
+use Rattle.uniques.specs.UniqueTable.{full}
 use Rattle.searches.specs.declared.Found.{Found}
 use Rattle.searches.specs.declared.Found.the-variants.{Nowhere, At}
 use Rattle.searches.specs.declared.Task.{Task}

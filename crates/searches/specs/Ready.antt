@@ -6,8 +6,8 @@ use Prim.Native.Nat.{ℕ, zero, suc, _+_, _*_, _-_, _/_, _%_, _^_, _<_, _≤_}
 use lib.ListN.{length, getD}
 use Rattle.algebra.specs.Entry.{𝟘}
 use Rattle.diagrams.specs.Diagram.{Tidy, levels}
-use Rattle.diagrams.specs.Columns.{Columns, NodeColumns, ValueColumns}
-use Rattle.diagrams.specs.UniqueTable.{full}
+use Rattle.stores.specs.Columns.{Columns, NodeColumns, ValueColumns}
+use Rattle.uniques.specs.UniqueTable.{full}
 use Rattle.diagrams.proofs.Unique.{Closed}
 use Rattle.searches.specs.declared.Found.the-variants.{Nowhere}
 use Rattle.searches.specs.declared.Task.{Task}

@@ -7,8 +7,8 @@ use lib.ListN.{getD}
 use Rattle.algebra.specs.declared.Entry.{Entry}
 use Rattle.algebra.specs.Matrix.{Bits}
 use Rattle.diagrams.specs.Diagram.{Store, holding}
-use Rattle.diagrams.specs.Columns.{Columns, entry-of, entries-of}
-use Rattle.diagrams.specs.UniqueTable.{nodes-in}
+use Rattle.stores.specs.Columns.{Columns, entry-of, entries-of}
+use Rattle.uniques.specs.UniqueTable.{nodes-in}
 
 -- the nodes and the values in so many slots from 0 up
 abbrev pub store-in : ℕ → ℕ → Columns → Store Entry

@@ -3,7 +3,7 @@
 // Node i stands in slot i of the columns level, low and high, value j in slot j of the columns a, b, c and d. The reference to
 // value j is 2·j, that to node i is 2·i + 1.
 use algebra::Entry;
-use diagrams::FULL;
+use uniques::FULL;
 use miters::Difference;
 use miters::Verdict;
 ghost use mathlib.Core.Path.{_≡_};
@@ -11,7 +11,7 @@ ghost use mathlib.Core.Bool.{true, false};
 ghost use Prim.Native.Nat.{_-_};
 ghost use lib.ListN.{replicate};
 ghost use Rattle.diagrams.specs.Diagram.{node};
-ghost use Rattle.diagrams.specs.Columns.{columns};
+ghost use Rattle.stores.specs.Columns.{columns};
 ghost use Rattle.miters.specs.Report.{verdict};
 ghost use Rattle.searches.specs.Slots.{store-in, cofactor, landing, bits};
 ghost use Rattle.searches.specs.Search.{given, is-settled, row-sought, column-sought};
@@ -177,20 +177,20 @@ pub fn read_verdict(
     let levels = 2 * n;
     let root = 2 * (nodes - 1) + 1;
     let corner = corner_of(level, low, high, levels, root);
-    let zero = diagrams::zero_of(a, b, c, d, values);
+    let zero = stores::zero_of(a, b, c, d, values);
     let task = Task {
         nodes,
         levels,
         corner,
         zero,
     };
-    let factor = diagrams::value_at(a, b, c, d, (corner / 2) as usize);
+    let factor = stores::value_at(a, b, c, d, (corner / 2) as usize);
     match ask_row(level, low, high, task, levels, root, 0, 0) {
         Found::Nowhere => Verdict::Equal(factor),
         Found::At { row, column, value } => Verdict::Different(Difference {
             row,
             column,
-            entry: diagrams::value_at(a, b, c, d, (value / 2) as usize),
+            entry: stores::value_at(a, b, c, d, (value / 2) as usize),
             corner: factor,
         }),
     }
@@ -239,5 +239,5 @@ pub fn entry_at(
         r = child_of(level, low, high, r, asked, (row >> left) % 2 == 1);
         r = child_of(level, low, high, r, asked + 1, (column >> left) % 2 == 1);
     }
-    diagrams::value_at(a, b, c, d, (r / 2) as usize)
+    stores::value_at(a, b, c, d, (r / 2) as usize)
 }

@@ -9,7 +9,7 @@ use lib.ListN.{length, getD}
 use Rattle.gates.specs.Gate.{Gate}
 use Rattle.gates.specs.Rule.{target}
 use Rattle.diagrams.specs.Diagram.{levels}
-use Rattle.diagrams.specs.Columns.{zeroed}
+use Rattle.stores.specs.Columns.{zeroed}
 use Rattle.diagrams.proofs.Places.{levels-double}
 use Rattle.transitions.specs.Plan.{plan-of}
 use Rattle.transitions.specs.Prepare.{prepared, PlanFor}

@@ -16,11 +16,11 @@ use Rattle.algebra.specs.Matrix.{Matrix}
 use Rattle.gates.specs.Gate.{Gate, on, pair, Fits}
 use Rattle.gates.specs.Rule.{target}
 use Rattle.diagrams.specs.Diagram.{code, Store, holding, diagram, slot, same-entry}
-use Rattle.diagrams.specs.Columns.{Columns, columns, entries-of, zero-ref, Published, ValueColumns, zeroed}
-use Rattle.diagrams.specs.UniqueTable.{node-in, nodes-in, entry-in, values-in, ValuesHeld}
-use Rattle.diagrams.proofs.Chains.{length-listed}
-use Rattle.diagrams.proofs.EmptyTables.{cleared-nodes, cleared-values}
-use Rattle.diagrams.proofs.Stores.{table-holds, level-held, low-held, high-held, entry-held, nodes-held, entries-held}
+use Rattle.stores.specs.Columns.{Columns, columns, entries-of, zero-ref, Published, ValueColumns, zeroed}
+use Rattle.uniques.specs.UniqueTable.{node-in, nodes-in, entry-in, values-in, ValuesHeld}
+use Rattle.uniques.proofs.Chains.{length-listed}
+use Rattle.stores.proofs.EmptyTables.{cleared-nodes, cleared-values}
+use Rattle.stores.proofs.Stores.{table-holds, level-held, low-held, high-held, entry-held, nodes-held, entries-held}
 use Rattle.diagrams.proofs.Tests.{Decides, both-true, entry-decides}
 use Rattle.miters.specs.Run.{Lent, in-width, has-room}
 use Rattle.transitions.specs.Plan.{plan-of}

@@ -4,7 +4,7 @@ use mathlib.Core.List.{List}
 use Prim.Native.Nat.{ℕ, _+_, _*_, _<_, _≤_, max}
 use lib.IntN.{ℤ}
 use lib.ListN.{length, set}
-use Rattle.diagrams.specs.Columns.{zeroed}
+use Rattle.stores.specs.Columns.{zeroed}
 use Rattle.transitions.specs.Plan.{plan-of}
 use Rattle.transitions.specs.Prepare.{product-on, prepared}
 use Rattle.tables.specs.Table.{TableFits, table-end, table-size, cleared}

@@ -10,7 +10,7 @@ use Rattle.algebra.specs.Width.{fitWidth}
 use Rattle.gates.specs.Gate.{Gate, Fits}
 use Rattle.gates.specs.Rule.{gate-rule, target}
 use Rattle.diagrams.specs.Diagram.{node, diagram}
-use Rattle.diagrams.specs.Columns.{Columns, Holds}
+use Rattle.stores.specs.Columns.{Columns, Holds}
 use Rattle.miters.specs.Run.{Lent, in-width, has-room}
 use Rattle.transitions.specs.Prepare.{as-number, product-on}
 use Rattle.transitions.proofs.Plans.{Controls}

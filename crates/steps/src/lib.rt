@@ -13,7 +13,7 @@ ghost use mathlib.Core.Bool.{cond};
 ghost use lib.Dec.{eqb};
 ghost use mathlib.Core.List.{[], _∷_};
 ghost use Prim.Native.Nat.{_*_, _≤_, max};
-ghost use Rattle.diagrams.specs.Columns.{columns, entries-of, zero-ref, ValueColumns};
+ghost use Rattle.stores.specs.Columns.{columns, entries-of, zero-ref, ValueColumns};
 ghost use Rattle.miters.specs.declared.Refusal.the-variants.{Step as at-step};
 ghost use Rattle.products.specs.Step.{Fresh};
 ghost use Rattle.products.specs.Step as product;
@@ -99,7 +99,7 @@ fn plan_step(
         ≡ planned action n sizes used (zero-ref (entries-of
         (now (a .entry)) (now (b .entry)) (now (c .entry)) (now (d .entry)) (used .values))) (now (plan .entry)) ⌝ }
 {
-    let zero = diagrams::zero_of(a, b, c, d, used.values);
+    let zero = stores::zero_of(a, b, c, d, used.values);
     lay_out(zero, 2 * n, sizes, used, plan);
     transitions::prepare(
         action.rule,
@@ -124,8 +124,8 @@ fn clear_tables(
         (now («node_index» .entry)) (now («value_index» .entry)) (now (memo .entry))
         (now («node_index» .exit)) (now («value_index» .exit)) (now (memo .exit)) ⌝ }
 {
-    diagrams::clear_index(node_index, nodes, nodes + wide(plan[NODE_HEADS]));
-    diagrams::clear_index(value_index, values, values + wide(plan[VALUE_HEADS]));
+    stores::clear_index(node_index, nodes, nodes + wide(plan[NODE_HEADS]));
+    stores::clear_index(value_index, values, values + wide(plan[VALUE_HEADS]));
     tables::clear_table(memo, 3 * wide(plan[SPAN]) + 4 * wide(plan[SLOTS]));
 }
 
@@ -251,7 +251,7 @@ pub fn take_step<'s>(
     );
     *tally = counts;
     if counts[2] == 0 {
-        diagrams::publish(terminals, counts[1], a, b, c, d);
+        stores::publish(terminals, counts[1], a, b, c, d);
     }
 }
 

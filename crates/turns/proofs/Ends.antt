@@ -13,8 +13,8 @@ use lib.Seq.{getD-set-same}
 use borrow.Author.Tests.{eq-eqb, ne-eqb, le-leb, lt-leb}
 use Rattle.algebra.specs.declared.Entry.{Entry}
 use Rattle.diagrams.specs.Diagram.{Node, branch, unused, code, ref-of, Store, Diagram, holding, rooted, same-node, keep, put-node}
-use Rattle.diagrams.specs.UniqueTable.{node-in, nodes-in, NodesHeld, ValuesHeld}
-use Rattle.diagrams.proofs.Chains.{length-listed}
+use Rattle.uniques.specs.UniqueTable.{node-in, nodes-in, NodesHeld, ValuesHeld}
+use Rattle.uniques.proofs.Chains.{length-listed}
 use Rattle.diagrams.proofs.References.{code-ref-of, ref-of-injective}
 use Rattle.diagrams.proofs.Tests.{apart-false, ref-decides, node-decides, true-both}
 use Rattle.transitions.specs.declared.State.{State}

@@ -13,8 +13,8 @@ use Rattle.algebra.specs.declared.Entry.{Entry}
 use Rattle.algebra.specs.Entry.{𝟘}
 use Rattle.algebra.specs.Width.{fitWidth, entryInWidth, bounded}
 use Rattle.diagrams.specs.Diagram.{Store, Diagram, same-entry, keep, put-value}
-use Rattle.diagrams.specs.UniqueTable.{entry-in, values-in, ValuesHeld}
-use Rattle.diagrams.proofs.Chains.{length-listed}
+use Rattle.uniques.specs.UniqueTable.{entry-in, values-in, ValuesHeld}
+use Rattle.uniques.proofs.Chains.{length-listed}
 use Rattle.diagrams.proofs.Tests.{entry-decides}
 use Rattle.transitions.specs.declared.State.{State}
 use Rattle.transitions.specs.Plan.{Plan, plan-of}

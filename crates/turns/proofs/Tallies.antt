@@ -10,10 +10,10 @@ use lib.ListN.{length, getD, set, length-set, length-append}
 use lib.Seq.{getD-set-same, getD-set-other}
 use borrow.Author.Tests.{eq-eqb, ne-eqb}
 use Rattle.diagrams.specs.Diagram.{slot, keep}
-use Rattle.diagrams.specs.UniqueTable.{Put}
+use Rattle.uniques.specs.UniqueTable.{Put}
 use Rattle.diagrams.proofs.Tests.{Decides}
 use Rattle.diagrams.proofs.Keeping.{Kept, found, fresh, kept}
-use Rattle.diagrams.proofs.Chains.{keep-grows}
+use Rattle.uniques.proofs.Chains.{keep-grows}
 use Rattle.turns.specs.Progress.{FULL, OUT}
 use Rattle.turns.specs.Turn.{tallied}
 

@@ -11,7 +11,7 @@ use Rattle.algebra.specs.declared.Bounded.{Bounded}
 use Rattle.algebra.specs.declared.Bounded.the-variants.{Within, Outside}
 use Rattle.algebra.specs.Width.{fitWidth, bounded}
 use Rattle.diagrams.specs.Diagram.{branch, ref-of}
-use Rattle.diagrams.specs.UniqueTable.{nodes-in, NodesHeld, NodeMade, values-in, ValuesHeld, ValueMade}
+use Rattle.uniques.specs.UniqueTable.{nodes-in, NodesHeld, NodeMade, values-in, ValuesHeld, ValueMade}
 use Rattle.transitions.specs.declared.State.{State}
 use Rattle.transitions.specs.Plan.{plan-of}
 use Rattle.transitions.specs.Source.{SourceHeld, Reading-leaf}

@@ -8,7 +8,7 @@ use lib.IntN.{ℤ}
 use lib.ListN.{length, getD}
 use Rattle.algebra.specs.declared.Entry.{Entry}
 use Rattle.diagrams.specs.Diagram.{ref-of, Store, holding, rooted}
-use Rattle.diagrams.specs.UniqueTable.{listed, nodes-in, NodesHeld, values-in, ValuesHeld}
+use Rattle.uniques.specs.UniqueTable.{listed, nodes-in, NodesHeld, values-in, ValuesHeld}
 use Rattle.transitions.specs.declared.State.{State}
 use Rattle.transitions.specs.Plan.{Plan}
 use Rattle.transitions.specs.Source.{entry-in}

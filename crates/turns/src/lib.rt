@@ -41,7 +41,7 @@ fn join(
         return l;
     }
     let used = tally[0];
-    let r = diagrams::make_node(level, low, high, index, plan[NODE_HEADS], used, lv, l, h);
+    let r = uniques::make_node(level, low, high, index, plan[NODE_HEADS], used, lv, l, h);
     if r == FULL {
         tally[2] = 1;
         return r;
@@ -102,7 +102,7 @@ fn terminal(
         return FULL;
     }
     let used = tally[1];
-    let r = diagrams::make_value(terminals, index, plan[VALUE_HEADS], used, e);
+    let r = uniques::make_value(terminals, index, plan[VALUE_HEADS], used, e);
     if r == FULL {
         tally[2] = 1;
         return r;

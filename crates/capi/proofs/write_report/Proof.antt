@@ -2,7 +2,7 @@
 use mathlib.Core.Path.{_≡_, _∙_, ap}
 use mathlib.Core.List.{List}
 use borrow.Author.Needs.{needs}
-use Rattle.diagrams.specs.Columns.{over}
+use Rattle.stores.specs.Columns.{over}
 use Rattle.capi.proofs.write_report.Statement.{statement}
 use Rattle.capi.proofs.write_report.Tie as tie
 

@@ -2,7 +2,7 @@
 use mathlib.Core.Path.{_≡_, _∙_}
 use mathlib.Core.Bool.{true}
 use Rattle.diagrams.specs.Diagram.{same-number}
-use Rattle.diagrams.proofs.ValueTables.{bits-same, bits-differ, bits-agree, other-a, other-b, other-c, by-d}
+use Rattle.diagrams.proofs.EntryTests.{bits-same, bits-differ, bits-agree, other-a, other-b, other-c, by-d}
 use Rattle.diagrams.proofs.same_entry.Statement.{statement}
 use Rattle.diagrams.proofs.same_entry.Tie as tie
 

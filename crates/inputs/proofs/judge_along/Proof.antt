@@ -2,7 +2,7 @@
 use mathlib.Core.Path.{ap}
 use borrow.Author.Needs.{needs}
 use Rattle.miters.specs.Run.{Outcome}
-use Rattle.diagrams.specs.Columns.{cleared}
+use Rattle.stores.specs.Columns.{cleared}
 use Rattle.inputs.specs.Input.{store, along-report}
 use Rattle.inputs.proofs.judge_along.Statement.{statement}
 use Rattle.inputs.proofs.judge_along.Tie as tie

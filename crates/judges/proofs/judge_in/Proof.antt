@@ -3,7 +3,7 @@
 use mathlib.Core.Path.{_∙_}
 use native.Mathlib.Omega.{arith}
 use borrow.Author.Needs.{needs}
-use Rattle.diagrams.specs.Columns.{Columns, columns}
+use Rattle.stores.specs.Columns.{Columns, columns}
 use Rattle.judges.proofs.Passing.{passed-task}
 use Rattle.judges.proofs.Reports.{Run-over, Same-lengths, second-slots, first-slots, few-kept, over-readable, over-answer}
 use Rattle.judges.proofs.judge_in.Statement.{statement}

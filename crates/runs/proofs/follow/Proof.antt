@@ -6,7 +6,7 @@ use Prim.Native.Nat.{_-_}
 use native.Mathlib.Omega.{arith}
 use borrow.Author.Needs.{needs}
 use lib.ListN.{length}
-use Rattle.diagrams.specs.Columns.{columns}
+use Rattle.stores.specs.Columns.{columns}
 use Rattle.runs.proofs.Stores.{tables}
 use Rattle.runs.proofs.Loops.{few-steps, Turning, turning-starts, turning-ends, step-task, turning-stops, turning-on}
 use Rattle.runs.proofs.follow.Statement.{statement}

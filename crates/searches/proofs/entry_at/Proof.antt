@@ -2,7 +2,7 @@
 -- the root. The measure is the number of qubits left. Assumes nothing.
 use borrow.Author.Needs.{needs}
 use native.Mathlib.Omega.{arith}
-use Rattle.diagrams.specs.Columns.{columns}
+use Rattle.stores.specs.Columns.{columns}
 use Rattle.searches.proofs.Entries.{Descended, way-starts, row-there, column-there, way-again, entry-used, entry-there, entry-given}
 use Rattle.searches.proofs.entry_at.Statement.{statement}
 use Rattle.searches.proofs.entry_at.Tie as tie

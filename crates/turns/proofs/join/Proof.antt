@@ -5,8 +5,8 @@ use native.Mathlib.Omega.{arith}
 use borrow.Author.Needs.{needs}
 use Prim.Native.Nat.{_+_, _*_, _≤_}
 use lib.ListN.{length, getD}
-use Rattle.diagrams.specs.UniqueTable.{node-in, nodes-in}
-use Rattle.diagrams.proofs.Chains.{length-listed}
+use Rattle.uniques.specs.UniqueTable.{node-in, nodes-in}
+use Rattle.uniques.proofs.Chains.{length-listed}
 use Rattle.turns.proofs.Tallies.{tallied-full, tallied-new, tallied-same}
 use Rattle.turns.proofs.join.Statement.{statement}
 use Rattle.turns.proofs.join.Tie as tie

@@ -1,0 +1,7 @@
+pub mod Columns
+pub mod Filling
+pub mod EmptyTables
+pub mod Zeros
+pub mod Stores
+pub mod Identities
+pub mod IdentityDiagram
