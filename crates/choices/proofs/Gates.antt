@@ -17,9 +17,9 @@ use Rattle.circuits.specs.Codes.{gate-code}
 use Rattle.circuits.specs.Answers.{control, gate-answer}
 use Rattle.circuits.proofs.Codes.{gate-decided}
 use Rattle.circuits.proofs.Remaining.{Remaining, remaining-next}
-use Rattle.transitions.specs.Prepare.{as-number}
-use Rattle.transitions.proofs.Plans.{Controls}
-use Rattle.steps.specs.Stepping.{Acts}
+use Rattle.plans.specs.Prepare.{as-number}
+use Rattle.plans.specs.Prepare.{Controls}
+use Rattle.plans.specs.Layout.{Acts}
 use Rattle.choices.specs.declared.Offsets.{Offsets}
 use Rattle.choices.specs.declared.Taken.{Taken}
 use Rattle.choices.specs.declared.Next.{Next}

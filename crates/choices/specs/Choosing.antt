@@ -10,8 +10,8 @@ use Rattle.gates.specs.Rule.{decision, gate-rule}
 use Rattle.circuits.specs.Reading.{read, gate}
 use Rattle.circuits.specs.Codes.{gate-code}
 use Rattle.circuits.proofs.Remaining.{Remaining}
-use Rattle.transitions.specs.Prepare.{as-number}
-use Rattle.steps.specs.Stepping.{Acts}
+use Rattle.plans.specs.Prepare.{as-number}
+use Rattle.plans.specs.Layout.{Acts}
 use Rattle.choices.specs.declared.Offsets.{Offsets}
 use Rattle.choices.specs.declared.Taken.{Taken}
 use Rattle.choices.specs.declared.Next.{Next}

@@ -3,9 +3,9 @@ use circuits::GateRead;
 use gates::Decision;
 use gates::Phases;
 use gates::Rule;
-use steps::Action;
+use plans::Action;
 ghost use mathlib.Core.Path.{_≡_};
-ghost use Rattle.transitions.specs.Prepare.{as-number};
+ghost use Rattle.plans.specs.Prepare.{as-number};
 ghost use Rattle.choices.specs.Choosing.{Ruled, Sided, Read, Chosen};
 
 // Where the gates of the two lists are read next.

@@ -11,7 +11,7 @@ use Rattle.miters.specs.Run.{ended}
 use Rattle.searches.specs.Slots.{store-in}
 use Rattle.searches.specs.Search.{given}
 use Rattle.searches.specs.Ready.{Searchable}
-use Rattle.steps.specs.declared.Used.{Used}
+use Rattle.plans.specs.declared.Used.{Used}
 use Rattle.runs.specs.declared.End.{End}
 use Rattle.runs.specs.declared.End.the-variants.{Done}
 use Rattle.endings.specs.Ending.{Readable, report-of}

@@ -7,7 +7,7 @@ use Rattle.miters.specs.Report.{verdict, refused}
 use Rattle.searches.specs.Slots.{store-in}
 use Rattle.searches.specs.Search.{given}
 use Rattle.searches.specs.Ready.{Searchable}
-use Rattle.steps.specs.declared.Used.{Used}
+use Rattle.plans.specs.declared.Used.{Used}
 use Rattle.runs.specs.declared.End.{End}
 use Rattle.runs.specs.declared.End.the-variants.{Done, Stopped}
 

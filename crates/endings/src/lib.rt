@@ -3,7 +3,7 @@ use miters::Refusal;
 use miters::Report;
 use miters::Verdict;
 use runs::End;
-use steps::Used;
+use plans::Used;
 ghost use mathlib.Core.Path.{_≡_};
 ghost use Rattle.stores.specs.Columns.{columns};
 ghost use Rattle.miters.specs.Report.{refused};

@@ -17,7 +17,7 @@ use Rattle.miters.specs.declared.Report.{Report}
 use Rattle.miters.specs.Miter.{steps}
 use Rattle.miters.specs.Report.{refused}
 use Rattle.miters.specs.Run.{ended, outcome, judged}
-use Rattle.steps.specs.declared.Sizes.{Sizes}
+use Rattle.plans.specs.declared.Sizes.{Sizes}
 use Rattle.steps.specs.Stepping.{Scratch, lent-with}
 use Rattle.choices.specs.declared.Offsets.{Offsets}
 use Rattle.runs.specs.Running.{Task}

@@ -16,8 +16,8 @@ use Rattle.miters.specs.Miter.{steps}
 use Rattle.miters.specs.Run.{Lent, Ended, ended, outcome}
 use Rattle.searches.specs.Slots.{store-in}
 use Rattle.searches.proofs.Held.{store-held, diagram-searchable, diagram-verdict}
-use Rattle.steps.specs.declared.Used.{Used}
-use Rattle.steps.specs.declared.Sizes.{Sizes}
+use Rattle.plans.specs.declared.Used.{Used}
+use Rattle.plans.specs.declared.Sizes.{Sizes}
 use Rattle.steps.specs.Stepping.{Source, Long, Scratch, lent-with}
 use Rattle.choices.specs.declared.Offsets.{Offsets}
 use Rattle.runs.specs.declared.End.{End}

@@ -7,7 +7,7 @@ use lib.IntN.{ℤ}
 use mathlib.Core.List.{List}
 use lib.ListN.{length, take, replicate, length-replicate}
 use lib.Seq.{length-take-le}
-use Rattle.steps.specs.declared.Sizes.{Sizes}
+use Rattle.plans.specs.declared.Sizes.{Sizes}
 use Rattle.steps.specs.Stepping.{Scratch}
 
 -- the first k slots of an array of n

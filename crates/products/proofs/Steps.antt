@@ -18,8 +18,8 @@ use Rattle.transitions.specs.Plan.{Plan, plan-of}
 use Rattle.transitions.specs.State.{made, inside}
 use Rattle.transitions.specs.Next.{numbered, start}
 use Rattle.transitions.specs.Valid.{ValidPlan}
-use Rattle.transitions.specs.Prepare.{product-on}
-use Rattle.transitions.proofs.Starts.{plan-valid, start-valid, start-made, start-inside}
+use Rattle.plans.specs.Prepare.{product-on}
+use Rattle.meanings.proofs.Starts.{plan-valid, start-valid, start-made, start-inside}
 use Rattle.tables.specs.Table.{slot-of}
 use Rattle.tables.proofs.Tables.{recalled-zeros}
 use Rattle.turns.specs.Progress.{Progress, building, full, out, Walks}

@@ -14,7 +14,7 @@ use Rattle.miters.specs.Run.{Lent, in-width, has-room}
 use Rattle.transitions.specs.Plan.{plan-of}
 use Rattle.transitions.specs.Source.{SourceHeld}
 use Rattle.transitions.specs.Valid.{IsZero}
-use Rattle.transitions.specs.Prepare.{product-on, PlanFor}
+use Rattle.plans.specs.Prepare.{product-on, PlanFor}
 use Rattle.tables.specs.Table.{TableFits, table-end}
 use Rattle.turns.specs.Work.{source-in, Work, node-room, value-room, store-in}
 

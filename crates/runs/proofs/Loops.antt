@@ -13,8 +13,8 @@ use Rattle.miters.specs.declared.Refusal.{Refusal}
 use Rattle.miters.specs.declared.Refusal.the-variants.{Step as at-step}
 use Rattle.miters.specs.Miter.{start, Step, steps}
 use Rattle.miters.specs.Run.{Lent, Ended, follow, ended}
-use Rattle.transitions.specs.Prepare.{as-number}
-use Rattle.steps.specs.declared.Sizes.{Sizes}
+use Rattle.plans.specs.Prepare.{as-number}
+use Rattle.plans.specs.declared.Sizes.{Sizes}
 use Rattle.steps.specs.Stepping.{lent-with}
 use Rattle.steps.specs.Stepping as stepping
 use Rattle.choices.specs.declared.Offsets.{Offsets}

@@ -20,7 +20,7 @@ use Rattle.stores.proofs.Stores.{written-holds}
 use Rattle.miters.specs.Miter.{start, Step}
 use Rattle.miters.specs.declared.Refusal.the-variants.{Step as at-step}
 use Rattle.miters.specs.Run.{Lent, has-room, stopped, follow, ended}
-use Rattle.steps.specs.declared.Sizes.{Sizes}
+use Rattle.plans.specs.declared.Sizes.{Sizes}
 use Rattle.steps.specs.Stepping.{Source, Long, Scratch}
 use Rattle.runs.specs.Inside.{current}
 

@@ -19,10 +19,11 @@ use Rattle.miters.specs.declared.Refusal.the-variants.{Step as at-step}
 use Rattle.miters.specs.Miter.{Over, Step, stepped, steps}
 use Rattle.miters.specs.Run.{Lent, Ended, done, stopped, follow}
 use Rattle.miters.proofs.Runs.{follow-too-wide, follow-too-full, follow-on}
-use Rattle.transitions.specs.Prepare.{as-number, product-on}
-use Rattle.steps.specs.declared.Sizes.{Sizes}
-use Rattle.steps.specs.declared.Used.{Used}
-use Rattle.steps.specs.Stepping.{Acts, Source, Long, Took, built, too-large, too-wide}
+use Rattle.plans.specs.Prepare.{as-number, product-on}
+use Rattle.plans.specs.declared.Sizes.{Sizes}
+use Rattle.plans.specs.declared.Used.{Used}
+use Rattle.plans.specs.Layout.{Acts}
+use Rattle.steps.specs.Stepping.{Source, Long, Took, built, too-large, too-wide}
 use Rattle.steps.specs.Stepping as stepping
 use Rattle.choices.specs.declared.Offsets.{Offsets}
 use Rattle.choices.specs.declared.Next.{Next}

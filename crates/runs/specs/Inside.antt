@@ -10,8 +10,8 @@ use Rattle.stores.specs.Columns.{Columns, written}
 use Rattle.stores.specs.Identity.{identity-store}
 use Rattle.miters.specs.Miter.{start, steps}
 use Rattle.miters.specs.Run.{follow}
-use Rattle.steps.specs.declared.Sizes.{Sizes}
-use Rattle.steps.specs.declared.Used.{Used}
+use Rattle.plans.specs.declared.Sizes.{Sizes}
+use Rattle.plans.specs.declared.Used.{Used}
 use Rattle.steps.specs.Stepping.{Source, Long, lent-with}
 use Rattle.choices.specs.declared.Offsets.{Offsets}
 use Rattle.runs.specs.declared.End.{End}

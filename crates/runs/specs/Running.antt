@@ -15,8 +15,8 @@ use Rattle.stores.specs.Columns.{Columns}
 use Rattle.miters.specs.declared.Refusal.{Refusal}
 use Rattle.miters.specs.Miter.{Over, steps}
 use Rattle.miters.specs.Run.{Lent, Ended, done, stopped, ended}
-use Rattle.steps.specs.declared.Sizes.{Sizes}
-use Rattle.steps.specs.declared.Used.{Used}
+use Rattle.plans.specs.declared.Sizes.{Sizes}
+use Rattle.plans.specs.declared.Used.{Used}
 use Rattle.steps.specs.Stepping.{Source, Long, Scratch, lent-with}
 use Rattle.choices.specs.declared.Offsets.{Offsets}
 use Rattle.runs.specs.declared.End.{End}

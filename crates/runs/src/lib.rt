@@ -1,9 +1,9 @@
 // A run along a schedule: from the identity, step by step, the two stores taking turns.
 use choices::Offsets;
 use miters::Refusal;
-use steps::Action;
-use steps::Sizes;
-use steps::Used;
+use plans::Action;
+use plans::Sizes;
+use plans::Used;
 ghost use Rattle.stores.specs.Columns.{columns};
 ghost use Rattle.steps.specs.Stepping as stepping;
 ghost use Rattle.runs.specs.Running.{Task, Left};
@@ -246,7 +246,7 @@ fn follow(
             &mut tally,
         );
         if tally[2] != 0 {
-            return End::Stopped(steps::refusal(tally[2], i as u32));
+            return End::Stopped(miters::refused_step(tally[2], i as u32));
         }
         from = next.offsets;
         exponent += choices::halves(action);
@@ -302,10 +302,10 @@ pub fn run(
         (columns (now (level .exit)) (now (low .exit)) (now (high .exit)) (now (a .exit)) (now (b .exit)) (now (c .exit)) (now (d .exit))) r ⌝ }
 {
     if level.len() < 3 * n as usize {
-        return End::Stopped(steps::refusal(1, 0));
+        return End::Stopped(miters::refused_step(1, 0));
     }
     if a.len() < 2 {
-        return End::Stopped(steps::refusal(1, 0));
+        return End::Stopped(miters::refused_step(1, 0));
     }
     begin(
         schedule.len(),

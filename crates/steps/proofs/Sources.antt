@@ -24,23 +24,24 @@ use Rattle.stores.proofs.Stores.{table-holds, level-held, low-held, high-held, 
 use Rattle.diagrams.proofs.Tests.{Decides, both-true, entry-decides}
 use Rattle.miters.specs.Run.{Lent, in-width, has-room}
 use Rattle.transitions.specs.Plan.{plan-of}
-use Rattle.transitions.specs.Prepare.{as-number, product-on, PlanFor}
+use Rattle.plans.specs.Prepare.{as-number, product-on, PlanFor}
 use Rattle.transitions.specs.Source.{SourceHeld}
 use Rattle.transitions.specs.Valid.{IsZero, ValidPlan}
-use Rattle.transitions.proofs.Starts.{zero-found, zero-absent, plan-valid}
+use Rattle.meanings.proofs.Starts.{zero-found, zero-absent, plan-valid}
 use Rattle.tables.specs.Table.{TableFits, table-end}
 use Rattle.tables.proofs.Sizes.{table-size-some, table-size-limit}
 use Rattle.tables.proofs.Tables.{cleared-zero, length-cleared}
 use Rattle.turns.specs.Work.{Work, work, source-in, store-in}
 use Rattle.products.specs.Step.{Given, lent-by, Fresh, Stepped, built, too-large, too-wide}
 use Rattle.products.specs.Step as product
-use Rattle.steps.specs.declared.Action.{Action}
-use Rattle.steps.specs.declared.Sizes.{Sizes}
-use Rattle.steps.specs.declared.Used.{Used}
-use Rattle.steps.specs.Layout.{planned, Planning, Roomy, Cleared, Walked}
+use Rattle.plans.specs.declared.Action.{Action}
+use Rattle.plans.specs.declared.Sizes.{Sizes}
+use Rattle.plans.specs.declared.Used.{Used}
+use Rattle.plans.specs.Layout.{planned, Planning, Roomy, Cleared}
+use Rattle.steps.specs.Walking.{Walked}
 use Rattle.steps.specs.Stepping.{Task, Took, lent-with}
 use Rattle.steps.specs.Stepping as stepping
-use Rattle.steps.proofs.Layouts.{Slots, slots-planned, planned-for}
+use Rattle.plans.proofs.Layouts.{Slots, slots-planned, planned-for}
 
 -- ---- the zero
 

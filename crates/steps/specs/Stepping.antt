@@ -12,22 +12,13 @@ use Rattle.gates.specs.Rule.{gate-rule, target}
 use Rattle.diagrams.specs.Diagram.{node, diagram}
 use Rattle.stores.specs.Columns.{Columns, Holds}
 use Rattle.miters.specs.Run.{Lent, in-width, has-room}
-use Rattle.transitions.specs.Prepare.{as-number, product-on}
-use Rattle.transitions.proofs.Plans.{Controls}
-use Rattle.steps.specs.declared.Action.{Action}
-use Rattle.steps.specs.declared.Sizes.{Sizes}
-use Rattle.steps.specs.declared.Used.{Used}
+use Rattle.plans.specs.Prepare.{as-number, product-on}
+use Rattle.plans.specs.Layout.{Acts}
+use Rattle.plans.specs.declared.Action.{Action}
+use Rattle.plans.specs.declared.Sizes.{Sizes}
+use Rattle.plans.specs.declared.Used.{Used}
 
 -- ---- what it is given
-
--- a gate's data, for the left or for the right of a matrix on n qubits
-pub record Acts (n : ℕ) (right : Bool) (g : Gate) (action : Action) : Type 0 where
-  pub fits : Fits n g
-  pub rule : action .rule ≡ gate-rule g
-  pub side : action .side ≡ as-number right
-  pub control : Controls g (action .control)
-  pub small-control : action .control < 65536
-  pub target : action .target ≡ target g
 
 -- columns of lengths N and L that hold the reduced diagram of a matrix; "The root is the last node."
 pub record Source (n : ℕ) (M : Matrix) (N L : ℕ) (used : Used) (C : Columns) : Type 0 where

@@ -2,13 +2,4 @@ pub mod Codes
 pub mod Slots
 pub mod Turns
 pub mod Leaves
-pub mod Actions
-pub mod Stages
-pub mod Cofactors
-pub mod Sound
-pub mod Meanings
 pub mod Needs
-pub mod Plans
-pub mod Sides
-pub mod Walks
-pub mod Starts

@@ -3,4 +3,3 @@ pub mod State
 pub mod Next
 pub mod Source
 pub mod Valid
-pub mod Prepare

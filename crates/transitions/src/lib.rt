@@ -1,8 +1,6 @@
 // A step by one gate, level by level: the states of the walk, and what each bit turns them into.
 use algebra::Bounded;
 use algebra::Entry;
-use gates::Phases;
-use gates::Rule;
 ghost use mathlib.Core.Path.{_≡_};
 ghost use mathlib.Core.List.{[], map};
 ghost use Prim.Native.Nat.{_+_, _/_, _<_, min};
@@ -17,7 +15,6 @@ ghost use Rattle.transitions.specs.State.{level-of, top, waiting, choosi
 ghost use Rattle.transitions.specs.Source.{entry-in, Readable, Holds-slot, Reading, Reading-both, Reading-leaf};
 ghost use Rattle.transitions.specs.Next.{numbered, cofactor, paired, chosen, at-target, next-by, next-state, is-leaf, leaf-entry};
 ghost use Rattle.transitions.specs.Valid.{Usable, Targeting};
-ghost use Rattle.transitions.specs.Prepare.{as-number, side-phases, with-action, with-stage, with-stages, prepared};
 
 // The step's plan, as numbers: the levels at which the gate asks, lowest first (its controls and its target), and then
 // how many there are, which of them is the target's, what the gate does there, the source's zero, the sizes of the tables,
@@ -328,77 +325,4 @@ pub fn leaf(values: &[&[i32]; 4], x: u32, y: u32, mode: u32, width: u32) -> Boun
         return algebra::sum(e, f, width);
     }
     algebra::difference(e, f, width)
-}
-
-// ---- the plan of a gate
-
-fn number_of(b: bool) -> u32
-    ensures { λ r. ⌜ r ≡ as-number b ⌝ }
-{
-    if b { 1 } else { 0 }
-}
-
-// The powers of w8 by the target's bit; a gate that mixes leaves x or −x where the other reference is the zero.
-fn phases_of(rule: Rule, side: u32) -> Phases
-    ensures { λ r. ⌜ r ≡ side-phases side rule ⌝ }
-{
-    if rule.mixes {
-        return Phases { zero: 0, one: 4 };
-    }
-    if side == 1 {
-        return rule.right;
-    }
-    rule.left
-}
-
-fn write_action(flips: bool, mixes: bool, phases: Phases, plan: &mut [u32; 32])
-    ensures { λ _. ⌜ now (plan .exit) ≡ with-action flips mixes phases (now (plan .entry)) ⌝ }
-{
-    plan[FLIPS] = number_of(flips);
-    plan[MIXES] = number_of(mixes);
-    plan[PHASE_ZERO] = phases.zero;
-    plan[PHASE_ONE] = phases.one;
-}
-
-// One stage, at level t; past the last stage the number of levels.
-fn write_stage(t: u32, plan: &mut [u32; 32])
-    ensures { λ _. ⌜ now (plan .exit) ≡ with-stage t (now (plan .entry)) ⌝ }
-{
-    let end = plan[LEVELS];
-    plan[0] = t;
-    plan[1] = end;
-    plan[STAGES] = 1;
-    plan[TARGET] = 0;
-}
-
-// Two stages, at levels a and b, and which of them is the target's.
-fn write_stages(a: u32, b: u32, target: u32, plan: &mut [u32; 32])
-    ensures { λ _. ⌜ now (plan .exit) ≡ with-stages a b target (now (plan .entry)) ⌝ }
-{
-    let end = plan[LEVELS];
-    plan[0] = a;
-    plan[1] = b;
-    plan[2] = end;
-    plan[STAGES] = 2;
-    plan[TARGET] = target;
-}
-
-// The plan of a gate on the left (side 0) or on the right (side 1), by its data, its control and its target; the other slots
-// stay, and the number of levels is read.
-pub fn prepare(rule: Rule, side: u32, control: u32, target: u32, plan: &mut [u32; 32])
-    requires { ⌜ (side < 2) × (control < 65536) × (target < 65536) ⌝ }
-    ensures { λ _. ⌜ now (plan .exit) ≡ prepared rule side control target (now (plan .entry)) ⌝ }
-{
-    write_action(rule.flips, rule.mixes, phases_of(rule, side), plan);
-    let c = 2 * control + side;
-    let t = 2 * target + side;
-    if rule.qubits == 1 {
-        write_stage(t, plan);
-        return;
-    }
-    if c < t {
-        write_stages(c, t, 1, plan);
-        return;
-    }
-    write_stages(t, c, 0, plan);
 }

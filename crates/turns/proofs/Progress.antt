@@ -14,7 +14,7 @@ use Rattle.diagrams.proofs.Tests.{both-true, true-both}
 use Rattle.transitions.specs.declared.State.{State}
 use Rattle.transitions.specs.Plan.{Plan}
 use Rattle.transitions.specs.State.{made, inside}
-use Rattle.transitions.proofs.Walks.{made-extends}
+use Rattle.meanings.proofs.Walks.{made-extends}
 use Rattle.turns.specs.Progress.{FULL, OUT, Progress, building, full, out, roomy, node-over, Walks, built, filled, left, still-full, left-full, gone}
 use Rattle.turns.specs.Progress.{Finish, low-out, high-out, no-more, joined, overflows}
 

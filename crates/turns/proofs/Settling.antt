@@ -21,7 +21,7 @@ use Rattle.transitions.specs.Plan.{Plan, plan-of}
 use Rattle.transitions.specs.State.{made, inside}
 use Rattle.transitions.specs.Next.{is-leaf, leaf-entry}
 use Rattle.transitions.specs.Valid.{ValidPlan}
-use Rattle.transitions.proofs.Walks.{made-leaf, inside-leaf}
+use Rattle.meanings.proofs.Walks.{made-leaf, inside-leaf}
 use Rattle.turns.specs.Progress.{FULL, OUT, Progress, building, full, out, roomy, Walks, filled, left, still-full, left-full}
 use Rattle.turns.specs.Work.{Work, node-room, value-room, store-in, progress-of, Filled, Working, SameRoom}
 use Rattle.turns.specs.Turn.{Placed, SettledBy}

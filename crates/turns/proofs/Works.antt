@@ -11,7 +11,7 @@ use Rattle.diagrams.proofs.References.{code-ref-of, ref-of-code}
 use Rattle.transitions.specs.declared.State.{State}
 use Rattle.transitions.specs.Plan.{Plan}
 use Rattle.transitions.specs.State.{made}
-use Rattle.transitions.proofs.Walks.{made-extends, made-again}
+use Rattle.meanings.proofs.Walks.{made-extends, made-again}
 use Rattle.turns.specs.Progress.{OUT, Progress, building, full, out, roomy, Walks, built, filled, left, still-full, left-full, gone}
 use Rattle.turns.specs.Progress.{Finish, low-out, high-out, no-more, joined, overflows}
 use Rattle.turns.specs.Work.{Right}

@@ -1,7 +1,7 @@
 -- `choices::halves` meets its contract: its test is the definition's.
 -- Assumes nothing.
 use mathlib.Core.Path.{sym, ap}
-use Rattle.transitions.specs.Prepare.{as-number}
+use Rattle.plans.specs.Prepare.{as-number}
 use Rattle.choices.proofs.halves.Statement.{statement}
 use Rattle.choices.proofs.halves.Tie as tie
 

@@ -162,7 +162,7 @@ returns c =
     let a = stopped c in
     let t = chosen a in
     turning-stops _ _ _ _ _ _ _ _ _ (head t .loop .inv) (test t .loop-test .taken) _ (t .choose .ensures) _ _ (a .advance .ensures)
-    (c .before .if1 .taken) (c .refusal .ensures)
+    (c .before .if1 .taken) (c .refused-step .ensures)
 
 -- ---- a step that is taken
 

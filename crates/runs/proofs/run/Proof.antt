@@ -34,7 +34,7 @@ refusal-requires : tie.Need-refusal-requires
 refusal-requires c κs = search needs
 
 returns : tie.Need-returns
-returns c task = run-few-nodes _ task (c .refusal .ensures) (c .before .if1 .taken)
+returns c task = run-few-nodes _ task (c .refused-step .ensures) (c .before .if1 .taken)
 
 refusal-requires-2 : tie.Need-refusal-requires-2
 refusal-requires-2 c κs = search needs

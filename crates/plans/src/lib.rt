@@ -1,0 +1,204 @@
+// The plan of a step and its tables, before its walk: what the gate does and at which levels, the sizes of the tables, the tables cleared.
+use gates::Phases;
+use gates::Rule;
+use transitions::FLIPS;
+use transitions::LEVELS;
+use transitions::MIXES;
+use transitions::NODE_HEADS;
+use transitions::PHASE_ONE;
+use transitions::PHASE_ZERO;
+use transitions::SLOTS;
+use transitions::SPAN;
+use transitions::STAGES;
+use transitions::TARGET;
+use transitions::VALUE_HEADS;
+use transitions::WIDTH;
+use transitions::ZERO;
+ghost use mathlib.Core.Path.{_≡_};
+ghost use Prim.Native.Nat.{_<_, _≤_, max};
+ghost use Rattle.stores.specs.Columns.{entries-of, zero-ref, ValueColumns};
+ghost use Rattle.plans.specs.Prepare.{as-number, side-phases, with-action, with-stage, with-stages, prepared};
+ghost use Rattle.plans.specs.Layout.{laid-out, planned, Planning, Roomy, Cleared};
+
+// The slots of the plan that hold the counts of the source's nodes and values.
+const SOURCE_NODES: usize = 30;
+
+const SOURCE_VALUES: usize = 31;
+
+// The sizes of the smallest tables.
+const LEAST_NODE_HEADS: u32 = 64;
+
+const LEAST_VALUE_HEADS: u32 = 16;
+
+const LEAST_SLOTS: u32 = 256;
+
+// A gate put on the left (side 0) or on the right (side 1), by its data, its control and its target.
+pub struct Action {
+    pub rule: Rule,
+    pub side: u32,
+    pub control: u32,
+    pub target: u32,
+}
+
+// The width, and the most heads of a unique table and slots of the computed table that the scratch has room for.
+pub struct Sizes {
+    pub width: u32,
+    pub heads: u32,
+    pub slots: u32,
+}
+
+// The nodes and values that a store holds.
+pub struct Used {
+    pub nodes: u32,
+    pub values: u32,
+}
+
+// ---- the plan of a gate
+
+fn number_of(b: bool) -> u32
+    ensures { λ r. ⌜ r ≡ as-number b ⌝ }
+{
+    if b { 1 } else { 0 }
+}
+
+// The powers of w8 by the target's bit; a gate that mixes leaves x or −x where the other reference is the zero.
+fn phases_of(rule: Rule, side: u32) -> Phases
+    ensures { λ r. ⌜ r ≡ side-phases side rule ⌝ }
+{
+    if rule.mixes {
+        return Phases { zero: 0, one: 4 };
+    }
+    if side == 1 {
+        return rule.right;
+    }
+    rule.left
+}
+
+fn write_action(flips: bool, mixes: bool, phases: Phases, plan: &mut [u32; 32])
+    ensures { λ _. ⌜ now (plan .exit) ≡ with-action flips mixes phases (now (plan .entry)) ⌝ }
+{
+    plan[FLIPS] = number_of(flips);
+    plan[MIXES] = number_of(mixes);
+    plan[PHASE_ZERO] = phases.zero;
+    plan[PHASE_ONE] = phases.one;
+}
+
+// One stage, at level t; past the last stage the number of levels.
+fn write_stage(t: u32, plan: &mut [u32; 32])
+    ensures { λ _. ⌜ now (plan .exit) ≡ with-stage t (now (plan .entry)) ⌝ }
+{
+    let end = plan[LEVELS];
+    plan[0] = t;
+    plan[1] = end;
+    plan[STAGES] = 1;
+    plan[TARGET] = 0;
+}
+
+// Two stages, at levels a and b, and which of them is the target's.
+fn write_stages(a: u32, b: u32, target: u32, plan: &mut [u32; 32])
+    ensures { λ _. ⌜ now (plan .exit) ≡ with-stages a b target (now (plan .entry)) ⌝ }
+{
+    let end = plan[LEVELS];
+    plan[0] = a;
+    plan[1] = b;
+    plan[2] = end;
+    plan[STAGES] = 2;
+    plan[TARGET] = target;
+}
+
+// The plan of a gate on the left (side 0) or on the right (side 1), by its data, its control and its target; the other slots
+// stay, and the number of levels is read.
+fn prepare(rule: Rule, side: u32, control: u32, target: u32, plan: &mut [u32; 32])
+    requires { ⌜ (side < 2) × (control < 65536) × (target < 65536) ⌝ }
+    ensures { λ _. ⌜ now (plan .exit) ≡ prepared rule side control target (now (plan .entry)) ⌝ }
+{
+    write_action(rule.flips, rule.mixes, phases_of(rule, side), plan);
+    let c = 2 * control + side;
+    let t = 2 * target + side;
+    if rule.qubits == 1 {
+        write_stage(t, plan);
+        return;
+    }
+    if c < t {
+        write_stages(c, t, 1, plan);
+        return;
+    }
+    write_stages(t, c, 0, plan);
+}
+
+// ---- the plan of a step
+
+fn larger(x: u32, y: u32) -> u32
+    ensures { λ r. ⌜ r ≡ max x y ⌝ }
+{
+    if x < y { y } else { x }
+}
+
+fn wide(x: u32) -> usize
+    ensures { λ r. ⌜ r ≡ x ⌝ }
+{
+    x as usize
+}
+
+// What a plan holds beside its gate: the source's zero and counts, the sizes of the tables, the width and the levels.
+fn lay_out(zero: u32, levels: u32, sizes: Sizes, used: Used, plan: &mut [u32; 32])
+    requires { ⌜ (used .nodes ≤ 65536) × (used .values ≤ 65536) ⌝ }
+    ensures { λ _. ⌜ now (plan .exit) ≡ laid-out zero levels sizes used (now (plan .entry)) ⌝ }
+{
+    plan[ZERO] = zero;
+    plan[NODE_HEADS] = tables::table_size(used.nodes, LEAST_NODE_HEADS, sizes.heads);
+    plan[VALUE_HEADS] = tables::table_size(used.values, LEAST_VALUE_HEADS, sizes.heads);
+    plan[SLOTS] = tables::table_size(used.nodes, LEAST_SLOTS, sizes.slots);
+    plan[WIDTH] = sizes.width;
+    plan[LEVELS] = levels;
+    plan[SPAN] = 2 * larger(used.nodes, used.values);
+    plan[SOURCE_NODES] = used.nodes;
+    plan[SOURCE_VALUES] = used.values;
+}
+
+// The plan of a step from a source with these values.
+pub fn plan_step(
+    action: Action,
+    n: u32,
+    sizes: Sizes,
+    used: Used,
+    a: &[i32],
+    b: &[i32],
+    c: &[i32],
+    d: &[i32],
+    plan: &mut [u32; 32],
+)
+    requires { ⌜ Planning action n used × ValueColumns (now a) (now b) (now c) (now d) (used .values) ⌝ }
+    ensures { λ _. ⌜ now (plan .exit)
+        ≡ planned action n sizes used (zero-ref (entries-of
+        (now (a .entry)) (now (b .entry)) (now (c .entry)) (now (d .entry)) (used .values))) (now (plan .entry)) ⌝ }
+{
+    let zero = stores::zero_of(a, b, c, d, used.values);
+    lay_out(zero, 2 * n, sizes, used, plan);
+    prepare(
+        action.rule,
+        action.side,
+        action.control,
+        action.target,
+        plan,
+    );
+}
+
+// Empty tables, as large as the plan says, for so many nodes and values.
+pub fn clear_tables(
+    plan: &[u32; 32],
+    nodes: usize,
+    values: usize,
+    node_index: &mut [u32],
+    value_index: &mut [u32],
+    memo: &mut [u32],
+)
+    requires { ⌜ Roomy (now plan) nodes values (now «node_index») (now «value_index») (now memo) ⌝ }
+    ensures { λ _. ⌜ Cleared (now (plan .entry)) nodes values
+        (now («node_index» .entry)) (now («value_index» .entry)) (now (memo .entry))
+        (now («node_index» .exit)) (now («value_index» .exit)) (now (memo .exit)) ⌝ }
+{
+    stores::clear_index(node_index, nodes, nodes + wide(plan[NODE_HEADS]));
+    stores::clear_index(value_index, values, values + wide(plan[VALUE_HEADS]));
+    tables::clear_table(memo, 3 * wide(plan[SPAN]) + 4 * wide(plan[SLOTS]));
+}
