@@ -12,7 +12,8 @@ use Rattle.stores.specs.Columns.{Columns}
 use Rattle.miters.specs.declared.Report.{Report}
 use Rattle.miters.specs.Run.{Outcome}
 use Rattle.judges.specs.Calls.{leaving}
-use Rattle.capi.specs.Calls.{Written, Returned, returning, reported, judging}
+use Rattle.fields.specs.Numbers.{Written}
+use Rattle.capi.specs.Calls.{Returned, returning, reported, judging}
 
 module _ (answer : Columns → Columns → Outcome) (first second : Columns) (numbers : List ℕ) (entries : List ℤ) where
   abbrev by-room : Bool → Bool → Returned

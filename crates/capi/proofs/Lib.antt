@@ -1,4 +1,2 @@
 pub mod Calls
-pub mod Copies
-pub mod Entries
 pub mod Makers

@@ -1,5 +1,4 @@
 -- What the calls of the C interface return and leave. Definitions only.
-use mathlib.Core.Path.{_≡_}
 use mathlib.Core.Bool.{cond, _&&_}
 use mathlib.Core.List.{List}
 use Prim.Native.Nat.{ℕ, _+_}
@@ -9,9 +8,8 @@ use lib.ListN.{length}
 use Rattle.schedules.specs.declared.Made.{Made}
 use Rattle.schedules.specs.declared.Made.the-variants.{Steps, Refused}
 use Rattle.stores.specs.Columns.{Columns, over}
-use Rattle.miters.specs.declared.Report.{Report}
 use Rattle.miters.specs.Run.{Outcome}
-use Rattle.capi.specs.Numbers.{numbers-of, entries-of}
+use Rattle.fields.specs.Numbers.{numbers-of, entries-of}
 
 -- ---- the judging call
 
@@ -36,11 +34,6 @@ unfoldable pub judging : (Columns → Columns → Outcome) → Columns → Colum
 judging answer first second numbers entries =
     cond (leb 11 (length numbers) && leb 8 (length entries)) (reported (answer first second) numbers entries)
     (returning 1 first second numbers entries)
-
--- what a report leaves in the slices with ′
-pub record Written (report : Report) (numbers : List ℕ) (entries : List ℤ) (numbers′ : List ℕ) (entries′ : List ℤ) : Type 0 where
-  pub of-numbers : numbers′ ≡ over (numbers-of report) numbers
-  pub of-entries : entries′ ≡ over (entries-of (report .verdict)) entries
 
 -- ---- the schedule maker
 

@@ -2,8 +2,8 @@
 use miters::Refusal;
 use miters::Report;
 use miters::Verdict;
-use runs::End;
 use plans::Used;
+use runs::End;
 ghost use mathlib.Core.Path.{_≡_};
 ghost use Rattle.stores.specs.Columns.{columns};
 ghost use Rattle.miters.specs.Report.{refused};

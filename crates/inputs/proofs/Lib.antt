@@ -1,3 +1,1 @@
-pub mod Counts
-pub mod Schedules
 pub mod Splits

@@ -11,7 +11,8 @@ use Rattle.circuits.specs.declared.Refusal.{Refusal}
 use Rattle.circuits.specs.Refusals.{ends-early}
 use Rattle.circuits.specs.Reading.{Reading, read, refused, number}
 use Rattle.miters.specs.declared.Report.{Report}
-use Rattle.inputs.specs.Input.{lists-report, bad-length, rest-report, after-length, input-report}
+use Rattle.pairs.specs.Pair.{lists-report}
+use Rattle.inputs.specs.Input.{bad-length, rest-report, after-length, input-report}
 
 -- ---- the bytes after the length
 

@@ -13,9 +13,9 @@ use Rattle.algebra.specs.declared.Entry.{Entry}
 use Rattle.algebra.specs.Matrix.{identity}
 use Rattle.diagrams.specs.Diagram.{node, Diagram, rooted, diagram}
 use Rattle.stores.specs.Columns.{Columns, columns, Holds, written}
-use Rattle.stores.specs.Identity.{identity-root, identity-nodes, identity-store}
-use Rattle.stores.proofs.Identities.{length-identity}
-use Rattle.stores.proofs.IdentityDiagram.{identity-diagram}
+use Rattle.identities.specs.Identity.{identity-root, identity-nodes, identity-store}
+use Rattle.identities.proofs.Identities.{length-identity}
+use Rattle.identities.proofs.IdentityDiagram.{identity-diagram}
 use Rattle.stores.proofs.Stores.{written-holds}
 use Rattle.miters.specs.Miter.{start, Step}
 use Rattle.miters.specs.declared.Refusal.the-variants.{Step as at-step}

@@ -51,10 +51,10 @@ fn begin(
         (now («other_a» .exit)) (now («other_b» .exit)) (now («other_c» .exit)) (now («other_d» .exit))) ⌝ }
 {
     if left % 2 == 0 {
-        stores::identity(n, level, low, high, a, b, c, d);
+        identities::identity(n, level, low, high, a, b, c, d);
         return;
     }
-    stores::identity(
+    identities::identity(
         n,
         other_level,
         other_low,

@@ -3,9 +3,9 @@
 // Node i stands in slot i of the columns level, low and high, value j in slot j of the columns a, b, c and d. The reference to
 // value j is 2·j, that to node i is 2·i + 1.
 use algebra::Entry;
-use uniques::FULL;
 use miters::Difference;
 use miters::Verdict;
+use uniques::FULL;
 ghost use mathlib.Core.Path.{_≡_};
 ghost use mathlib.Core.Bool.{true, false};
 ghost use Prim.Native.Nat.{_-_};

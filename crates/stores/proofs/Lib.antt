@@ -3,5 +3,3 @@ pub mod Filling
 pub mod EmptyTables
 pub mod Zeros
 pub mod Stores
-pub mod Identities
-pub mod IdentityDiagram

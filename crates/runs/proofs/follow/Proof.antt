@@ -76,21 +76,21 @@ advance-requires c κs =
 array-read-if1 : tie.Need-array-read-if1 Inv-loop μ-loop
 array-read-if1 c = search needs
 
-array-read-refusal : tie.Need-array-read-refusal Inv-loop μ-loop
-array-read-refusal c = search needs
+array-read-refused-step : tie.Need-array-read-refused-step Inv-loop μ-loop
+array-read-refused-step c = search needs
 
-cast-refusal : tie.Need-cast-refusal Inv-loop μ-loop
-cast-refusal c =
+cast-refused-step : tie.Need-cast-refused-step Inv-loop μ-loop
+cast-refused-step c =
     let near = c .before .before .before .before .before .before .before .before .before .before .before .before .before .before .before .before .before in
     let s = chosen (near .before .before .before .before .before .before .before .before .before .before .before) in
     omega (arith, test s .loop-test .taken, few-steps _ _ _ _ _ _ _ _ _ (entry (head s) .pre))
 
-refusal-requires : tie.Need-refusal-requires Inv-loop μ-loop
-refusal-requires c κs = search needs
+refused-step-requires : tie.Need-refused-step-requires Inv-loop μ-loop
+refused-step-requires c κs = search needs
 
 -- ---- a step that is refused
 
-abbrev stopped : tie.After-refusal Inv-loop μ-loop → tie.After-advance Inv-loop μ-loop
+abbrev stopped : tie.After-refused-step Inv-loop μ-loop → tie.After-advance Inv-loop μ-loop
 stopped c =
     let near = c .before .before .before .before .before .before .before .before .before .before .before .before .before .before in
     near .before .before .before .before .before .before .before .before .before .before .before .before .before .before .before
@@ -305,9 +305,9 @@ follow-spec =
     sub-advance
     advance-requires
     array-read-if1
-    array-read-refusal
-    cast-refusal
-    refusal-requires
+    array-read-refused-step
+    cast-refused-step
+    refused-step-requires
     same-length
     same-length-2
     same-length-3
