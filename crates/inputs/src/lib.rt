@@ -1,6 +1,6 @@
 // The verdict program's answer on the bytes that it has read: the split into two lists, their judging, and the line.
-use circuits::ListRead;
 use circuits::NumberRead;
+use lists::ListRead;
 use miters::Refusal;
 use miters::Report;
 use miters::Verdict;
@@ -34,7 +34,7 @@ fn refuse_length(number: u32) -> Report
 fn count_gates(list: &[u8]) -> u32
     ensures { λ r. ⌜ r ≡ gate-count (now (list .entry)) ⌝ }
 {
-    match circuits::check_list(list, circuits::base_limits()) {
+    match lists::check_list(list, circuits::base_limits()) {
         ListRead::Refused(_) => 0,
         ListRead::List {
             qubits: _,
@@ -100,7 +100,7 @@ fn judge_lists(u: &[u8], v: &[u8]) -> Report
 pub fn judge_input(bytes: &[u8]) -> Report
     ensures { λ r. ⌜ r ≡ input-report (now (bytes .entry)) ⌝ }
 {
-    match circuits::read_number(bytes, 0) {
+    match readers::number_at(bytes, 0) {
         NumberRead::Refused(why) => refuse_length(why.number),
         NumberRead::Number { value, next } => {
             let rest = &bytes[next..];
