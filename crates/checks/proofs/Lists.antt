@@ -7,11 +7,11 @@ use Prim.Native.Nat.{ℕ}
 use borrow.Author.Tests.{eq-eqb, ne-eqb}
 use Rattle.circuits.specs.declared.Refusal.{Refusal as ListRefusal}
 use Rattle.circuits.specs.declared.Limits.{Limits}
-use Rattle.circuits.specs.declared.ListRead.{ListRead}
 use Rattle.circuits.specs.Refusals.{base-limits}
 use Rattle.circuits.specs.Reading.{refused, decoded}
-use Rattle.circuits.specs.Answers.{list-answer}
-use Rattle.circuits.proofs.Answers.{Listed, list-read, list-refused}
+use Rattle.lists.specs.declared.ListRead.{ListRead}
+use Rattle.lists.specs.Answers.{list-answer}
+use Rattle.lists.proofs.Answers.{Listed, list-read, list-refused}
 use Rattle.schedules.specs.Schedule.{fits}
 use Rattle.miters.specs.declared.Refusal.the-variants.{Call}
 use Rattle.checks.specs.declared.Checked.{Checked}

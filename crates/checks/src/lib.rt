@@ -1,6 +1,6 @@
 // The checks before a run: the width, the columns' lengths, the two lists, their qubit counts, the schedule.
 use choices::Offsets;
-use circuits::ListRead;
+use lists::ListRead;
 use miters::Refusal;
 ghost use mathlib.Core.Path.{_≡_};
 ghost use Rattle.miters.specs.declared.Refusal.the-variants.{Call};
@@ -86,13 +86,13 @@ fn fit_both(first: Lengths, second: Lengths) -> bool
 fn check_lists(u: &[u8], v: &[u8], schedule: &[u8]) -> Checked
     ensures { λ r. ⌜ r ≡ checked (check-lists (now (u .entry)) (now (v .entry)) (now (schedule .entry))) ⌝ }
 {
-    match circuits::check_list(u, circuits::base_limits()) {
+    match lists::check_list(u, circuits::base_limits()) {
         ListRead::Refused(why) => byte(1, why),
         ListRead::List {
             qubits,
             gates,
             first,
-        } => match circuits::check_list(v, circuits::base_limits()) {
+        } => match lists::check_list(v, circuits::base_limits()) {
             ListRead::Refused(why) => byte(2, why),
             ListRead::List {
                 qubits: other_qubits,

@@ -58,7 +58,7 @@ fn rule_on(side: u32, code: u32) -> Rule
 fn take(bytes: &[u8], at: usize, n: u32, side: u32) -> Taken
     ensures { λ r. ⌜ Read (now (bytes .entry)) at n side r ⌝ }
 {
-    match circuits::read_gate(bytes, at, n) {
+    match readers::gate_at(bytes, at, n) {
         GateRead::Gate {
             code,
             control,

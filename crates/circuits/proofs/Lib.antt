@@ -2,7 +2,6 @@ pub mod Answers
 pub mod Numbers
 pub mod Codes
 pub mod Readings
-pub mod Lists
 pub mod Forms
 pub mod Checks
 pub mod Remaining

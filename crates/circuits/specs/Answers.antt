@@ -2,14 +2,12 @@
 use Prim.Native.Nat.{ℕ}
 use mathlib.Core.Bool.{cond}
 use mathlib.Core.List.{List}
-use lib.ListN.{length}
 use lib.Dec.{eqb}
 use Rattle.gates.specs.Gate.{Gate, on, pair}
 use Rattle.gates.specs.Rule.{target}
 use Rattle.circuits.specs.declared.NumberRead.{NumberRead}
 use Rattle.circuits.specs.declared.GateRead.{GateRead}
-use Rattle.circuits.specs.declared.ListRead.{ListRead}
-use Rattle.circuits.specs.Reading.{Reading, read, refused, target-qubit, Circuit}
+use Rattle.circuits.specs.Reading.{Reading, read, refused, target-qubit}
 use Rattle.circuits.specs.Codes.{gate-code}
 
 abbrev pub number-answer : Reading ℕ → NumberRead
@@ -24,10 +22,6 @@ control (pair k p q) = p
 abbrev pub gate-answer : Reading Gate → GateRead
 gate-answer (read g next) = GateRead.Gate (gate-code g) (control g) (target g) next
 gate-answer (refused r) = GateRead.Refused r
-
-abbrev pub list-answer : Reading Circuit → ListRead
-list-answer (read c next) = ListRead.List (c .qubits) (length (c .gates)) (c .first)
-list-answer (refused r) = ListRead.Refused r
 
 -- ---- the parts of a gate, for the functions that read them
 

@@ -1,8 +1,8 @@
-// Gate lists as bytes: numbers, gates and whole lists, read by slice and offset. Any bytes and any offset are safe input.
+// Gate lists as bytes: numbers and gates, read by slice and offset. Any bytes and any offset are safe input.
 ghost use mathlib.Core.Path.{_≡_};
 ghost use Rattle.circuits.specs.Refusals.{base-limits};
-ghost use Rattle.circuits.specs.Reading.{last-group, number, count, qubit, target-qubit, gate, body, decoded};
-ghost use Rattle.circuits.specs.Answers.{number-answer, placed, named-answer, gate-answer, list-answer};
+ghost use Rattle.circuits.specs.Reading.{last-group, number, qubit, target-qubit, gate};
+ghost use Rattle.circuits.specs.Answers.{number-answer, placed, named-answer, gate-answer};
 use gates::Decision;
 
 // ---- answers
@@ -17,17 +17,11 @@ const ENDS_EARLY: u32 = 3;
 
 const NOT_SHORTEST: u32 = 4;
 
-const BAD_QUBIT_COUNT: u32 = 5;
-
-const BAD_GATE_COUNT: u32 = 6;
-
 const UNKNOWN_CODE: u32 = 7;
 
 const NO_SUCH_QUBIT: u32 = 8;
 
 const CONTROL_IS_TARGET: u32 = 9;
-
-const BYTES_REMAIN: u32 = 10;
 
 // A number and the offset after it, or why there is none.
 pub enum NumberRead {
@@ -42,16 +36,6 @@ pub enum GateRead {
         control: u32,
         target: u32,
         next: usize,
-    },
-    Refused(Refusal),
-}
-
-// A list's counts and the offset of its first gate, or the first failure met.
-pub enum ListRead {
-    List {
-        qubits: u32,
-        gates: u32,
-        first: usize,
     },
     Refused(Refusal),
 }
@@ -126,28 +110,6 @@ pub fn read_number(bytes: &[u8], at: usize) -> NumberRead
         number: NOT_SHORTEST,
         offset: at,
     })
-}
-
-// A count, refused by its own number where it is not from `low` to `high`.
-fn read_count(bytes: &[u8], at: usize, low: u32, high: u32, refusal: u32) -> NumberRead
-    ensures { λ r. ⌜ r ≡ number-answer (count low high refusal (now (bytes .entry)) at) ⌝ }
-{
-    let outside = NumberRead::Refused(Refusal {
-        number: refusal,
-        offset: at,
-    });
-    match read_number(bytes, at) {
-        NumberRead::Refused(why) => NumberRead::Refused(why),
-        NumberRead::Number { value, next } => {
-            if value < low {
-                return outside;
-            }
-            if high < value {
-                return outside;
-            }
-            NumberRead::Number { value, next }
-        }
-    }
 }
 
 // ---- gates
@@ -229,60 +191,5 @@ pub fn read_gate(bytes: &[u8], at: usize, qubits: u32) -> GateRead
             }),
             Decision::Known(rule) => read_operands(bytes, next, qubits, value, rule.qubits),
         },
-    }
-}
-
-// ---- lists
-
-// The gates of a list, the first of which stands at `first`, and its end.
-fn check_gates(bytes: &[u8], first: usize, qubits: u32, gates: u32) -> ListRead
-    ensures { λ r. ⌜ r ≡ list-answer (body qubits gates (now (bytes .entry)) first) ⌝ }
-{
-    let mut at = first;
-    let mut left = gates;
-    while 0 < left {
-        match read_gate(bytes, at, qubits) {
-            GateRead::Refused(why) => return ListRead::Refused(why),
-            GateRead::Gate {
-                code: _,
-                control: _,
-                target: _,
-                next,
-            } => at = next,
-        }
-        left -= 1;
-    }
-    if at < bytes.len() {
-        ListRead::Refused(Refusal {
-            number: BYTES_REMAIN,
-            offset: at,
-        })
-    } else {
-        ListRead::List {
-            qubits,
-            gates,
-            first,
-        }
-    }
-}
-
-// Reads a list to its end, and returns its head or the first failure met.
-pub fn check_list(bytes: &[u8], limits: Limits) -> ListRead
-    ensures { λ r. ⌜ r ≡ list-answer (decoded limits (now (bytes .entry))) ⌝ }
-{
-    match read_count(bytes, 0, 1, limits.qubits, BAD_QUBIT_COUNT) {
-        NumberRead::Refused(why) => ListRead::Refused(why),
-        NumberRead::Number {
-            value: qubits,
-            next,
-        } => {
-            match read_count(bytes, next, 0, limits.gates, BAD_GATE_COUNT) {
-                NumberRead::Refused(why) => ListRead::Refused(why),
-                NumberRead::Number {
-                    value: gates,
-                    next: first,
-                } => check_gates(bytes, first, qubits, gates),
-            }
-        }
     }
 }

@@ -33,7 +33,7 @@ fn refuse_length(number: u32) -> Report
 pub fn judge_input(bytes: &[u8]) -> Report
     ensures { λ r. ⌜ r ≡ input-report (now (bytes .entry)) ⌝ }
 {
-    match circuits::read_number(bytes, 0) {
+    match readers::number_at(bytes, 0) {
         NumberRead::Refused(why) => refuse_length(why.number),
         NumberRead::Number { value, next } => {
             let rest = &bytes[next..];

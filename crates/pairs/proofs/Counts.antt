@@ -6,12 +6,12 @@ use Prim.Native.Nat.{ℕ, _≤_}
 use native.Mathlib.Omega.{arith}
 use Rattle.circuits.specs.declared.Refusal.{Refusal}
 use Rattle.circuits.specs.declared.Limits.{Limits}
-use Rattle.circuits.specs.declared.ListRead.{ListRead}
 use Rattle.circuits.specs.Refusals.{base-limits}
 use Rattle.circuits.specs.Reading.{Reading, read, refused, Circuit, decoded}
-use Rattle.circuits.specs.Answers.{list-answer}
-use Rattle.circuits.proofs.Answers.{list-read, list-refused}
 use Rattle.circuits.proofs.Within.{decoded-within}
+use Rattle.lists.specs.declared.ListRead.{ListRead}
+use Rattle.lists.specs.Answers.{list-answer}
+use Rattle.lists.proofs.Answers.{list-read, list-refused}
 use Rattle.schedules.specs.Schedule.{gate-limit}
 use Rattle.pairs.specs.Pair.{gates-read, gate-count}
 

@@ -1,5 +1,5 @@
 // Two lists judged at the programs' settings: width 32, stores of 4,096 nodes and 1,024 values, the proportional schedule.
-use circuits::ListRead;
+use lists::ListRead;
 use miters::Report;
 ghost use mathlib.Core.Path.{_≡_};
 ghost use Rattle.pairs.specs.Pair.{gate-count, along-report, lists-report};
@@ -8,7 +8,7 @@ ghost use Rattle.pairs.specs.Pair.{gate-count, along-report, lists-repor
 fn count_gates(list: &[u8]) -> u32
     ensures { λ r. ⌜ r ≡ gate-count (now (list .entry)) ⌝ }
 {
-    match circuits::check_list(list, circuits::base_limits()) {
+    match lists::check_list(list, circuits::base_limits()) {
         ListRead::Refused(_) => 0,
         ListRead::List {
             qubits: _,

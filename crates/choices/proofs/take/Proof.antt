@@ -5,8 +5,8 @@ use Rattle.choices.proofs.Gates.{gate-taken, none-taken}
 use Rattle.choices.proofs.take.Statement.{statement}
 use Rattle.choices.proofs.take.Tie as tie
 
-read-gate-requires : tie.Need-read-gate-requires
-read-gate-requires c κs = search needs
+gate-at-requires : tie.Need-gate-at-requires
+gate-at-requires c κs = search needs
 
 enum-known-code : tie.Need-enum-known-code
 enum-known-code c = search needs
@@ -23,16 +23,16 @@ rule-of-requires c κs = search needs
 returns : tie.Need-returns
 returns c =
     let read = c .before .before .before .before in
-    gate-taken _ _ _ _ (read .read-gate .ensures) _ (c .before .before .code .given .1) (c .rule-on .ensures)
+    gate-taken _ _ _ _ (read .gate-at .ensures) _ (c .before .before .code .given .1) (c .rule-on .ensures)
 
 returns-2 : tie.Need-returns-2
-returns-2 c = none-taken _ _ _ _ (c .before .before .before .read-gate .ensures) _ (c .before .enum-told .given .1)
+returns-2 c = none-taken _ _ _ _ (c .before .before .before .gate-at .ensures) _ (c .before .enum-told .given .1)
 
 pub take-spec : {M : Type 1} → statement M
 take-spec =
     tie.close
     (tie.spec
-    read-gate-requires
+    gate-at-requires
     enum-known-code
     rule-on-requires
     enum-told

@@ -12,8 +12,8 @@ use Rattle.inputs.proofs.Splits.{input-unread, input-short, input-long}
 use Rattle.inputs.proofs.judge_input.Statement.{statement}
 use Rattle.inputs.proofs.judge_input.Tie as tie
 
-read-number-requires : tie.Need-read-number-requires
-read-number-requires c κs = search needs
+number-at-requires : tie.Need-number-at-requires
+number-at-requires c κs = search needs
 
 enum-known-why : tie.Need-enum-known-why
 enum-known-why c = search needs
@@ -27,7 +27,7 @@ enum-known-value c = search needs
 -- the length was read, and ends within the bytes
 was-read : (c : tie.After-known-told2) →
     number (c .before .before .before .before .before .args .bytes .now) 0 ≡ read (c .before .value .given .0 .0) (c .before .value .given .0 .1 .0)
-was-read c = number-read (number _ _) (c .before .before .before .read-number .ensures) (c .before .value .given .1)
+was-read c = number-read (number _ _) (c .before .before .before .number-at .ensures) (c .before .value .given .1)
 
 within : (c : tie.After-known-told2) → c .before .value .given .0 .1 .0 ≤ length (c .before .before .before .before .before .args .bytes .now)
 within c = number-within _ 0 (was-read c)
@@ -70,7 +70,7 @@ judge-lists-requires c κs = search needs
 returns-2 : tie.Need-returns-2
 returns-2 c =
     let arm = c .before .before in
-    c .refuse-length .ensures ∙ sym (input-unread _ (number-refused (number _ _) (arm .before .before .read-number .ensures) (arm .why .given .1)))
+    c .refuse-length .ensures ∙ sym (input-unread _ (number-refused (number _ _) (arm .before .before .number-at .ensures) (arm .why .given .1)))
 
 returns-3 : tie.Need-returns-3
 returns-3 c =
@@ -81,7 +81,7 @@ pub judge-input-spec : {M : Type 1} → statement M
 judge-input-spec =
     tie.close
     (tie.spec
-    read-number-requires
+    number-at-requires
     enum-known-why
     refuse-length-requires
     enum-known-value

@@ -10,12 +10,12 @@ use borrow.Author.Tests.{lt-ltb, le-ltb}
 use lib.ListN.{length}
 use lib.Dec.{ltb}
 use Rattle.gates.specs.Gate.{Gate}
 use Rattle.circuits.specs.declared.Refusal.{Refusal}
-use Rattle.circuits.specs.declared.ListRead.{ListRead}
+use Rattle.lists.specs.declared.ListRead.{ListRead}
 use Rattle.circuits.specs.Refusals.{refusal, bytes-remain}
 use Rattle.circuits.specs.Reading.{Reading, read, refused, followed, gate, gates, end, Circuit, body}
-use Rattle.circuits.specs.Answers.{list-answer}
+use Rattle.lists.specs.Answers.{list-answer}
 use Rattle.circuits.proofs.Readings.{gates-length}
 
 module _ (n m first : ℕ) (s : List ℕ) where
   -- the answer after the gates

@@ -1,14 +1,14 @@
--- `circuits::check_gates` meets its contract. The loop's invariant: the list's answer is that of the gates still to be read, from
+-- `lists::check_gates` meets its contract. The loop's invariant: the list's answer is that of the gates still to be read, from
 -- the present offset on. The measure is the number of those gates.
 -- Assumes nothing.
 use mathlib.Core.Path.{_≡_, sym, _∙_}
 use borrow.Author.Needs.{needs}
 use Rattle.circuits.specs.Reading.{gate, body}
-use Rattle.circuits.specs.Answers.{list-answer}
+use Rattle.lists.specs.Answers.{list-answer}
 use Rattle.circuits.proofs.Answers.{gate-read, gate-refused}
-use Rattle.circuits.proofs.Lists.{left-answer, left-all, left-refused, left-read, left-over, left-none}
-use Rattle.circuits.proofs.check_gates.Statement.{statement}
-use Rattle.circuits.proofs.check_gates.Tie as tie
+use Rattle.lists.proofs.Lists.{left-answer, left-all, left-refused, left-read, left-over, left-none}
+use Rattle.lists.proofs.check_gates.Statement.{statement}
+use Rattle.lists.proofs.check_gates.Tie as tie
 
 abbrev Inv-loop : tie.InvT-loop
 Inv-loop bytes first qubits gates at₀ left₀ at left =
@@ -20,8 +20,8 @@ abbrev μ-loop : tie.MeasureT-loop
 loop-holds : tie.Need-loop-holds Inv-loop μ-loop
 loop-holds c = left-all _ _ _ _
 
-read-gate-requires : tie.Need-read-gate-requires Inv-loop μ-loop
-read-gate-requires c κs = search needs
+gate-at-requires : tie.Need-gate-at-requires Inv-loop μ-loop
+gate-at-requires c κs = search needs
 
 enum-known-why : tie.Need-enum-known-why Inv-loop μ-loop
 enum-known-why c = search needs
@@ -31,7 +31,7 @@ returns c =
     let g = c .before .before .before in
     sym
     (g .before .before .loop .inv
-    ∙ left-refused _ _ _ _ _ _ (g .before .loop-test .taken) (gate-refused (gate _ _ _) (g .read-gate .ensures) (c .before .why .given .1)))
+    ∙ left-refused _ _ _ _ _ _ (g .before .loop-test .taken) (gate-refused (gate _ _ _) (g .gate-at .ensures) (c .before .why .given .1)))
 
 enum-known-next : tie.Need-enum-known-next Inv-loop μ-loop
 enum-known-next c = search needs
@@ -46,7 +46,7 @@ loop-again : tie.Need-loop-again Inv-loop μ-loop
 loop-again c =
     let g = c .before .before .before in
     g .before .before .loop .inv
-    ∙ left-read _ _ _ _ _ _ (g .before .loop-test .taken) (gate-read (gate _ _ _) (g .read-gate .ensures) (c .before .next .given .1) .1)
+    ∙ left-read _ _ _ _ _ _ (g .before .loop-test .taken) (gate-read (gate _ _ _) (g .gate-at .ensures) (c .before .next .given .1) .1)
 
 returns-2 : tie.Need-returns-2 Inv-loop μ-loop
 returns-2 c = sym (c .before .before .loop .inv ∙ left-over _ _ _ _ _ _ (c .before .loop-test .left) (c .if1 .taken))
@@ -61,7 +61,7 @@ check-gates-spec =
     Inv-loop
     μ-loop
     loop-holds
-    read-gate-requires
+    gate-at-requires
     enum-known-why
     returns
     enum-known-next

@@ -1,10 +1,10 @@
--- `circuits::check_list` meets its contract: the two counts are the definition's, and so is what follows them.
+-- `lists::check_list` meets its contract: the two counts are the definition's, and so is what follows them.
 -- Assumes nothing.
 use borrow.Author.Needs.{needs}
 use Rattle.circuits.specs.Reading.{count, list, decoded}
 use Rattle.circuits.proofs.Answers.{number-read, number-refused}
-use Rattle.circuits.proofs.check_list.Statement.{statement}
-use Rattle.circuits.proofs.check_list.Tie as tie
+use Rattle.lists.proofs.check_list.Statement.{statement}
+use Rattle.lists.proofs.check_list.Tie as tie
 
 read-count-requires : tie.Need-read-count-requires
 read-count-requires c κs = search needs
