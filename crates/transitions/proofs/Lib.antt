@@ -1,5 +1,3 @@
 pub mod Codes
 pub mod Slots
 pub mod Turns
-pub mod Leaves
-pub mod Needs

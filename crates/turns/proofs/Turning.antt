@@ -22,7 +22,7 @@ use Rattle.transitions.specs.Next.{mode-code, next-state, is-leaf, leaf-entry}
 use Rattle.transitions.specs.Valid.{ValidPlan, ValidState, Suits, Usable}
 use Rattle.transitions.proofs.Codes.{mode-turning, mode-waiting}
 use Rattle.meanings.proofs.Sound.{top-most}
-use Rattle.transitions.proofs.Needs.{usable}
+use Rattle.leaves.proofs.Needs.{usable}
 use Rattle.meanings.proofs.Walks.{next-valid, next-later, top-leaf, made-branch, inside-branch}
 use Rattle.tables.specs.Table.{unsettled, slot-of, recalled, noted, InTable, AtSlot, AllRight}
 use Rattle.tables.proofs.Tables.{allRight-noted, allRight-weaken, fits-noted}

@@ -133,7 +133,7 @@ pub fn settle(
         (now (terminals .exit)) (now (index .exit)) (now (tally .exit))
         (map now (now (values .entry))) (now (memo .entry)) (numbered x y mode) (now (memo .exit)) r ⌝ }
 {
-    let b = transitions::leaf(values, x, y, mode, plan[WIDTH]);
+    let b = leaves::leaf(values, x, y, mode, plan[WIDTH]);
     match b {
         Bounded::Within(e) => {
             let r = terminal(plan, e, terminals, index, tally);

@@ -38,7 +38,7 @@ pub fn hand_over(
     if tally[2] > 1 {
         return OUT;
     }
-    if transitions::is_leaf(x, y, mode) {
+    if leaves::is_leaf(x, y, mode) {
         return turns::settle(
             plan,
             at,

@@ -1,4 +1,4 @@
--- `diagrams::identity` meets its contract: the values, then the nodes. Assumes nothing.
+-- `identities::identity` meets its contract: the values, then the nodes. Assumes nothing.
 use Rattle.identities.proofs.Identities.{pairs-published}
 use Rattle.stores.proofs.Stores.{store-written}
 use Rattle.identities.proofs.identity.Statement.{statement}

@@ -1,4 +1,4 @@
--- `diagrams::write_pair` meets its contract: two slots are set. Assumes nothing.
+-- `identities::write_pair` meets its contract: two slots are set. Assumes nothing.
 use borrow.Author.Needs.{needs}
 use mir.Facts.{toZ-ofZ}
 use Rattle.identities.proofs.Identities.{pair-over}

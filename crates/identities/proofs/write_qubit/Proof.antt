@@ -1,4 +1,4 @@
--- `diagrams::write_qubit` meets its contract: nine slots are set. Assumes nothing.
+-- `identities::write_qubit` meets its contract: nine slots are set. Assumes nothing.
 use native.Mathlib.Omega.{arith}
 use borrow.Author.Needs.{needs}
 use lib.ListN.{length-set}

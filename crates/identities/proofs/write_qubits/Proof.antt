@@ -1,4 +1,4 @@
--- `diagrams::write_qubits` meets its contract. The loop's invariant: the nodes of the last k qubits are written, with x for their root.
+-- `identities::write_qubits` meets its contract. The loop's invariant: the nodes of the last k qubits are written, with x for their root.
 -- The measure is what is left of the qubits. Assumes nothing.
 use Prim.Native.Nat.{_-_}
 use native.Mathlib.Omega.{arith}

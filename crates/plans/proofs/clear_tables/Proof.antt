@@ -1,4 +1,4 @@
--- `steps::clear_tables` meets its contract: the heads and the computed table are as large as the plan says.
+-- `plans::clear_tables` meets its contract: the heads and the computed table are as large as the plan says.
 -- Assumes nothing.
 use borrow.Author.Needs.{needs}
 use Rattle.plans.proofs.Layouts.{clears}

@@ -1,4 +1,4 @@
--- `steps::lay_out` meets its contract: the writes are the layout.
+-- `plans::lay_out` meets its contract: the writes are the layout.
 -- Assumes nothing.
 use borrow.Author.Needs.{needs}
 use Rattle.plans.proofs.Layouts.{lays-out}

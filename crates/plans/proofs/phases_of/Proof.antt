@@ -1,4 +1,4 @@
--- `transitions::phases_of` meets its contract: each return has the tests that led there. Assumes nothing.
+-- `plans::phases_of` meets its contract: each return has the tests that led there. Assumes nothing.
 use mathlib.Core.Path.{_∙_}
 use borrow.Author.Tests.{eq-eqb, ne-eqb}
 use Rattle.transitions.proofs.Turns.{cond-true, cond-false}

@@ -1,4 +1,4 @@
--- `steps::plan_step` meets its contract: the layout with the source's zero, then the gate's plan.
+-- `plans::plan_step` meets its contract: the layout with the source's zero, then the gate's plan.
 -- Assumes nothing.
 use borrow.Author.Needs.{needs}
 use Rattle.plans.proofs.Layouts.{plans}

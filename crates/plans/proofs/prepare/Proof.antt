@@ -1,4 +1,4 @@
--- `transitions::prepare` meets its contract: the gate's action, then its stages in ascending order. Assumes nothing.
+-- `plans::prepare` meets its contract: the gate's action, then its stages in ascending order. Assumes nothing.
 use Rattle.plans.proofs.Plans.{prepared-one, prepared-ascending, prepared-descending}
 use borrow.Author.Needs.{needs}
 use Rattle.plans.proofs.prepare.Statement.{statement}

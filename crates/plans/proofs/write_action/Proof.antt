@@ -1,4 +1,4 @@
--- `transitions::write_action` meets its contract: four slots are set. Assumes nothing.
+-- `plans::write_action` meets its contract: four slots are set. Assumes nothing.
 use mathlib.Core.Path.{ap₂}
 use Prim.Native.Nat.{ℕ}
 use lib.ListN.{set}

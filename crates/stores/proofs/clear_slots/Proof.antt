@@ -1,4 +1,4 @@
--- `diagrams::clear_slots` meets its contract. The loop's invariant: the slots passed are cleared and the others are as they were.
+-- `stores::clear_slots` meets its contract. The loop's invariant: the slots passed are cleared and the others are as they were.
 -- The measure is what is left. Assumes nothing.
 use mathlib.Core.Path.{_≡_, sym}
 use Prim.Native.Nat.{_-_}

@@ -1,4 +1,4 @@
--- `diagrams::copy_numbers` meets its contract. The loop's invariant: the slots passed have the terminals' numbers and the others are
+-- `stores::copy_numbers` meets its contract. The loop's invariant: the slots passed have the terminals' numbers and the others are
 -- as they were. The measure is what is left. Assumes nothing.
 use mathlib.Core.Path.{_≡_, _∙_, ap}
 use Prim.Native.Nat.{ℕ, _+_, _*_, _-_}

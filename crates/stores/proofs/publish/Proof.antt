@@ -1,4 +1,4 @@
--- `diagrams::publish` meets its contract, column by column. Assumes nothing.
+-- `stores::publish` meets its contract, column by column. Assumes nothing.
 use borrow.Author.Needs.{needs}
 use Rattle.stores.proofs.Stores.{published}
 use Rattle.stores.proofs.publish.Statement.{statement}

@@ -1,4 +1,4 @@
--- `diagrams::wipe` meets its contract, column by column. Assumes nothing.
+-- `stores::wipe` meets its contract, column by column. Assumes nothing.
 use native.Mathlib.Nat.{le-refl}
 use Rattle.stores.proofs.Stores.{wipes}
 use Rattle.stores.proofs.wipe.Statement.{statement}

@@ -1,4 +1,4 @@
--- `diagrams::zero_of` meets its contract. The loop's invariant: none of the entries passed is zero. The measure is what is left.
+-- `stores::zero_of` meets its contract. The loop's invariant: none of the entries passed is zero. The measure is what is left.
 -- Assumes nothing.
 use mathlib.Core.Path.{_≡_, sym, _∙_, ap}
 use mathlib.Core.Bool.{false}

@@ -1,4 +1,4 @@
--- `diagrams::find_node` meets its contract. The loop's invariant: p is a number of the node's chain, and the node is not among
+-- `uniques::find_node` meets its contract. The loop's invariant: p is a number of the node's chain, and the node is not among
 -- those from p on. The measure is p. Assumes nothing.
 use Prim.Native.Nat.{_-_, _<_}
 use lib.ListN.{getD}

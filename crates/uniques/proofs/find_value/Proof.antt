@@ -1,4 +1,4 @@
--- `diagrams::find_value` meets its contract. The loop's invariant: p is a number of the terminal's chain, and the terminal is not
+-- `uniques::find_value` meets its contract. The loop's invariant: p is a number of the terminal's chain, and the terminal is not
 -- among those from p on. The measure is p. Assumes nothing.
 use mathlib.Core.Path.{_≡_, _∙_, ap}
 use Prim.Native.Nat.{_-_, _<_}

@@ -1,4 +1,4 @@
--- `diagrams::hash_node` meets its contract: no sum wraps. Assumes nothing.
+-- `uniques::hash_node` meets its contract: no sum wraps. Assumes nothing.
 use borrow.Author.Needs.{needs}
 use Rattle.uniques.specs.UniqueTable.{node-hash}
 use Rattle.uniques.proofs.Hashes.{scaled-fits}

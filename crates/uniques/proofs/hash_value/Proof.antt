@@ -1,4 +1,4 @@
--- `diagrams::hash_value` meets its contract: no sum wraps. Assumes nothing.
+-- `uniques::hash_value` meets its contract: no sum wraps. Assumes nothing.
 use borrow.Author.Needs.{needs}
 use Rattle.uniques.specs.UniqueTable.{value-hash}
 use Rattle.uniques.proofs.Hashes.{scaled-fits, lifted-local}

@@ -1,4 +1,4 @@
--- `diagrams::lifted` meets its contract: in 64 bits the sum does not wrap and is not negative. Assumes nothing.
+-- `uniques::lifted` meets its contract: in 64 bits the sum does not wrap and is not negative. Assumes nothing.
 use mathlib.Core.Path.{refl}
 use native.Mathlib.Omega.{arith}
 use Rattle.algebra.proofs.Widths.{cast64}

@@ -1,4 +1,4 @@
--- `diagrams::make_value` meets its contract: by what the search answers, the terminal is found, appended, or has no slot. Assumes nothing.
+-- `uniques::make_value` meets its contract: by what the search answers, the terminal is found, appended, or has no slot. Assumes nothing.
 use mathlib.Core.Path.{_≡_, refl, sym, ap}
 use mathlib.Core.List.{List}
 use Prim.Native.Nat.{ℕ, _+_, _/_, _<_, _≤_}

@@ -1,4 +1,4 @@
--- `diagrams::node_is` meets its contract: it compares number by number. Assumes nothing.
+-- `uniques::node_is` meets its contract: it compares number by number. Assumes nothing.
 use borrow.Author.Needs.{needs}
 use Rattle.uniques.proofs.NodeTables.{other-low, other-high, by-level}
 use Rattle.uniques.proofs.node_is.Statement.{statement}

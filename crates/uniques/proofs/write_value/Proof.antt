@@ -1,4 +1,4 @@
--- `diagrams::write_value` meets its contract: four slots are set. Assumes nothing.
+-- `uniques::write_value` meets its contract: four slots are set. Assumes nothing.
 use native.Mathlib.Omega.{arith}
 use borrow.Author.Needs.{needs}
 use lib.ListN.{length-set}

@@ -11,11 +11,11 @@ use borrow.Fn.Kinds.{In}
 use borrow.Fn.PlainCycle.{Measures, is, falls, and}
 use Rattle.transitions.specs.Plan.{plan-of}
 use Rattle.transitions.specs.Next.{numbered}
-use Rattle.transitions.proofs.Needs.{leaf-slots}
+use Rattle.leaves.proofs.Needs.{leaf-slots}
 use Rattle.tables.proofs.recall.Reads as recall
 use Rattle.tables.proofs.slot.Reads as slot
 use Rattle.transitions.proofs.asked.Reads as asked
-use Rattle.transitions.proofs.is_leaf.Reads as is-leaf
+use Rattle.leaves.proofs.is_leaf.Reads as is-leaf
 use Rattle.transitions.proofs.next.Reads as next
 use Rattle.turns.proofs.finish.Reads as finish
 use Rattle.turns.proofs.settle.Reads as settle

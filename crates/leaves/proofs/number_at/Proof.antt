@@ -1,11 +1,11 @@
--- `transitions::number_at` meets its contract: the number in the slot. Assumes nothing.
+-- `leaves::number_at` meets its contract: the number in the slot. Assumes nothing.
 use mathlib.Core.Path.{_∙_}
 use lib.IntN.{pos}
 use denote.Ref.{now}
 use Rattle.transitions.proofs.Slots.{slot-behind, behind-slot, number-held}
 use borrow.Author.Needs.{needs}
-use Rattle.transitions.proofs.number_at.Statement.{statement}
-use Rattle.transitions.proofs.number_at.Tie as tie
+use Rattle.leaves.proofs.number_at.Statement.{statement}
+use Rattle.leaves.proofs.number_at.Tie as tie
 
 mul-result : tie.Need-mul-result
 mul-result c = search needs

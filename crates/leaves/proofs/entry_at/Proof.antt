@@ -1,10 +1,10 @@
--- `transitions::entry_at` meets its contract: the four numbers in the slot. Assumes nothing.
+-- `leaves::entry_at` meets its contract: the four numbers in the slot. Assumes nothing.
 use mathlib.Core.Path.{_∙_}
 use Rattle.algebra.specs.Entry.{entry}
 use Rattle.transitions.proofs.Slots.{number-held}
 use borrow.Author.Needs.{needs}
-use Rattle.transitions.proofs.entry_at.Statement.{statement}
-use Rattle.transitions.proofs.entry_at.Tie as tie
+use Rattle.leaves.proofs.entry_at.Statement.{statement}
+use Rattle.leaves.proofs.entry_at.Tie as tie
 
 number-at-requires : tie.Need-number-at-requires
 number-at-requires c κs = search needs

@@ -1,10 +1,10 @@
--- `transitions::leaf` meets its contract: by the mode, one entry turned or the sum or difference of two. Assumes nothing.
+-- `leaves::leaf` meets its contract: by the mode, one entry turned or the sum or difference of two. Assumes nothing.
 use mathlib.Core.Path.{_∙_, ap}
 use Rattle.algebra.specs.Width.{bounded}
-use Rattle.transitions.proofs.Leaves.{leaf-turning, leaf-adding, leaf-subtracting}
+use Rattle.leaves.proofs.Leaves.{leaf-turning, leaf-adding, leaf-subtracting}
 use borrow.Author.Needs.{needs}
-use Rattle.transitions.proofs.leaf.Statement.{statement}
-use Rattle.transitions.proofs.leaf.Tie as tie
+use Rattle.leaves.proofs.leaf.Statement.{statement}
+use Rattle.leaves.proofs.leaf.Tie as tie
 
 entry-at-requires : tie.Need-entry-at-requires
 entry-at-requires c κs = search needs

@@ -1,10 +1,10 @@
--- `transitions::is_leaf` meets its contract: values, and nothing left of the gate. Assumes nothing.
+-- `leaves::is_leaf` meets its contract: values, and nothing left of the gate. Assumes nothing.
 use mathlib.Core.Path.{_∙_}
 use Rattle.transitions.specs.Next.{is-leaf}
 use Rattle.transitions.proofs.Codes.{mode-turning}
-use Rattle.transitions.proofs.Leaves.{value-true, value-false, value-even, leaf-pair, leaf-not-pair, not-leaf}
-use Rattle.transitions.proofs.is_leaf.Statement.{statement}
-use Rattle.transitions.proofs.is_leaf.Tie as tie
+use Rattle.leaves.proofs.Leaves.{value-true, value-false, value-even, leaf-pair, leaf-not-pair, not-leaf}
+use Rattle.leaves.proofs.is_leaf.Statement.{statement}
+use Rattle.leaves.proofs.is_leaf.Tie as tie
 
 returns : tie.Need-returns
 unfolding is-leaf

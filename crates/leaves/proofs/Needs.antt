@@ -8,15 +8,15 @@ use native.Mathlib.Omega.{arith}
 use lib.IntN.{ℤ}
 use Rattle.algebra.specs.declared.Entry.{Entry}
 use Rattle.diagrams.specs.Diagram.{Store, ref-of}
 use Rattle.transitions.specs.declared.State.{State}
 use Rattle.transitions.specs.Plan.{Plan}
 use Rattle.transitions.specs.State.{Mode, turning, adding, subtracting, waiting, choosing, mode-of, top}
 use Rattle.transitions.specs.Source.{NodesHeld, ValuesHeld, Refers, Readable, Holds-slot}
 use Rattle.transitions.specs.Next.{is-value, is-leaf-by, is-leaf}
 use Rattle.transitions.specs.Valid.{ValidPlan, ValidState, Suits, Staged, Usable}
 use Rattle.diagrams.proofs.Tests.{both-true}
 use Rattle.transitions.proofs.Codes.{ref-of-odd}
-use Rattle.transitions.proofs.Leaves.{value-slot}
+use Rattle.leaves.proofs.Leaves.{value-slot}
 
 -- ---- nodes
 
