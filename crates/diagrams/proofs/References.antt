@@ -6,7 +6,7 @@ use Prim.Native.Nat.{ℕ, _*_, _/_, _%_}
 use native.Mathlib.Omega.{arith}
 use lib.Dec.{eqb}
 use borrow.Author.Tests.{eqb-true, eqb-false}
-use Rattle.diagrams.specs.Diagram.{Ref, value, node, branch, code, ref-of}
+use Rattle.diagrams.specs.Diagram.{Ref, value, node, code, ref-of}
 use Rattle.diagrams.proofs.Tests.{code-injective}
 
 pub code-ref-of : (c : ℕ) → code (ref-of c) ≡ c

@@ -7,7 +7,6 @@ use Rattle.stores.specs.Columns.{Columns}
 use Rattle.miters.specs.declared.Verdict.{Verdict}
 use Rattle.miters.specs.Report.{verdict}
 use Rattle.miters.specs.Miter.{steps}
-use Rattle.miters.specs.Run.{ended}
 use Rattle.searches.specs.Slots.{store-in}
 use Rattle.searches.specs.Search.{given}
 use Rattle.searches.specs.Ready.{Searchable}

@@ -9,7 +9,7 @@ use borrow.Author.Tests.{le-leb, lt-leb}
 use lib.ListN.{length, take, drop}
 use Rattle.circuits.specs.declared.Refusal.{Refusal}
 use Rattle.circuits.specs.Refusals.{ends-early}
-use Rattle.circuits.specs.Reading.{Reading, read, refused, number}
+use Rattle.circuits.specs.Reading.{read, refused, number}
 use Rattle.miters.specs.declared.Report.{Report}
 use Rattle.pairs.specs.Pair.{lists-report}
 use Rattle.inputs.specs.Input.{bad-length, rest-report, after-length, input-report}

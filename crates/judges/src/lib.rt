@@ -4,8 +4,6 @@ use checks::Lengths;
 use choices::Offsets;
 use miters::Report;
 use plans::Sizes;
-use plans::Used;
-use runs::End;
 ghost use mathlib.Core.Path.{_≡_};
 ghost use lib.ListN.{length};
 ghost use Rattle.stores.specs.Columns.{columns};

@@ -1,8 +1,8 @@
 -- A run along a schedule in lent stores, with the refusals of its steps, and what it leaves. Definitions only; that any two
 -- runs agree is in proofs/Runs.antt.
-use mathlib.Core.Bool.{Bool, true, false, cond, _&&_}
+use mathlib.Core.Bool.{Bool, cond, _&&_}
 use mathlib.Core.List.{List, [], _∷_}
-use Prim.Native.Nat.{ℕ, zero, suc}
+use Prim.Native.Nat.{ℕ, suc}
 use lib.Dec.{leb}
 use lib.ListN.{length, take}
 use Rattle.algebra.specs.Matrix.{Matrix, everywhere}

@@ -7,7 +7,6 @@ use native.Mathlib.Omega.{arith}
 use lib.ListN.{length, take, drop, length-append}
 use lib.Seq.{take-append-seam}
 use Rattle.schedules.specs.declared.Made.{Made}
-use Rattle.schedules.specs.declared.Made.the-variants.{Steps}
 use Rattle.schedules.specs.Schedule.{gate-limit, next-step, steps-from, proportional, made, filled}
 use Rattle.schedules.proofs.Makers.{made-steps}
 use Rattle.pairs.specs.Pair.{gate-count}

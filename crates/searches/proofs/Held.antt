@@ -10,7 +10,7 @@ use Rattle.algebra.specs.Entry.{𝟘, entry}
 use Rattle.algebra.specs.Matrix.{Matrix}
 use Rattle.diagrams.specs.Diagram.{Ref, node, code, ref-of, Node, branch, Store, holding, unused, Tidy, levels, diagram}
 use Rattle.stores.specs.Columns.{Columns, columns, held, NodeColumns, ValueColumns}
-use Rattle.uniques.specs.UniqueTable.{listed, node-in}
+use Rattle.uniques.specs.UniqueTable.{node-in}
 use Rattle.diagrams.proofs.Unique.{Closed, walked}
 use Rattle.diagrams.proofs.References.{ref-of-code}
 use Rattle.uniques.proofs.Chains.{length-listed}

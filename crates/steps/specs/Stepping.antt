@@ -7,12 +7,11 @@ use lib.IntN.{ℤ}
 use lib.ListN.{length, getD}
 use Rattle.algebra.specs.Matrix.{Matrix}
 use Rattle.algebra.specs.Width.{fitWidth}
-use Rattle.gates.specs.Gate.{Gate, Fits}
-use Rattle.gates.specs.Rule.{gate-rule, target}
+use Rattle.gates.specs.Gate.{Gate}
 use Rattle.diagrams.specs.Diagram.{node, diagram}
 use Rattle.stores.specs.Columns.{Columns, Holds}
 use Rattle.miters.specs.Run.{Lent, in-width, has-room}
-use Rattle.plans.specs.Prepare.{as-number, product-on}
+use Rattle.plans.specs.Prepare.{product-on}
 use Rattle.plans.specs.Layout.{Acts}
 use Rattle.plans.specs.declared.Action.{Action}
 use Rattle.plans.specs.declared.Sizes.{Sizes}

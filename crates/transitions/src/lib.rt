@@ -269,4 +269,3 @@ pub fn next(
     }
     next_choosing(src, plan, lv, bit, (mode - 64) / 8, (mode - 64) % 8, x, y)
 }
-

@@ -1,26 +1,19 @@
 -- Unique tables of terminals: what lent slots hold as a terminal is found or appended.
 -- Assumes nothing.
-use mathlib.Core.Path.{_≡_, refl, sym, _∙_, ap}
-use mathlib.Core.Bool.{Bool, true, false}
+use mathlib.Core.Path.{_≡_, refl, _∙_, ap}
 use mathlib.Core.List.{List, [], _∷_, _++_}
 use mathlib.Core.Logic.{_≢_}
-use Prim.Native.Nat.{ℕ, _+_, _*_, _-_, _^_, _<_, _≤_}
+use Prim.Native.Nat.{ℕ, _+_, _*_, _-_, _<_, _≤_}
 use native.Mathlib.Numerals.{add-one}
 use native.Mathlib.Omega.{arith}
-use borrow.Author.Tests.{ne-eqb, eq-eqb}
-use lib.Dec.{eqb}
 use lib.IntN.{ℤ, pos}
 use lib.ListN.{length, getD, set, drop, length-set, length-append}
 use lib.Seq.{getD-set-same, getD-set-other, drop-set-lt}
-use lib.Signed.{mag}
-use mir.Facts.{toZ-ofZ}
-use mir.Syntax.{w32}
-use mir.Val.{toZ, ofZ}
 use Rattle.algebra.specs.declared.Entry.{Entry}
 use Rattle.algebra.specs.Entry.{𝟘}
-use Rattle.diagrams.specs.Diagram.{same-number, same-entry}
+use Rattle.diagrams.specs.Diagram.{same-entry}
 use Rattle.uniques.specs.UniqueTable.{full, found, entry-in, with-entry, values-in, value-hash, ValuesHeld, ValueMade}
-use Rattle.diagrams.proofs.Tests.{false-apart, number-decides, entry-decides}
+use Rattle.diagrams.proofs.Tests.{entry-decides}
 use Rattle.diagrams.proofs.Keeping.{Absent}
 use Rattle.uniques.proofs.Hashes.{value-hash-below}
 use Rattle.uniques.proofs.Chains.{listed-snoc, put-there, put-next, put-full, indexed-snoc}

@@ -4,7 +4,7 @@
 // for a table of N slots, slot i has the next of element i, slot N + h the head of the chain of hash h.
 use algebra::Entry;
 ghost use mathlib.Core.Path.{_≡_};
-ghost use Prim.Native.Nat.{_+_, _*_, _/_, _^_, _<_, _≤_};
+ghost use Prim.Native.Nat.{_+_, _*_, _/_, _^_, _<_};
 ghost use lib.ListN.{length, getD};
 ghost use Rattle.diagrams.specs.Diagram.{branch, ref-of, same-node, same-entry};
 ghost use Rattle.uniques.specs.UniqueTable.{found, node-in, nodes-in, node-hash, NodesHeld, NodeMade};

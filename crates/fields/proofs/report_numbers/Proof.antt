@@ -3,12 +3,10 @@ use mathlib.Core.Path.{_≡_, sym, _∙_, ap}
 use mathlib.Core.List.{List, [], _∷_}
 use Prim.Native.Nat.{ℕ}
 use borrow.Author.Needs.{needs}
-use Rattle.miters.specs.declared.Refusal.{Refusal}
 use Rattle.miters.specs.declared.Verdict.{Verdict}
-use Rattle.miters.specs.declared.Verdict.the-variants.{Refused}
 use Rattle.miters.specs.declared.Report.{Report}
 use Rattle.fields.specs.declared.Reason.{Reason}
-use Rattle.fields.specs.Numbers.{reason-of, with-counts, verdict-numbers, numbers-of}
+use Rattle.fields.specs.Numbers.{with-counts, verdict-numbers, numbers-of}
 use Rattle.fields.proofs.report_numbers.Statement.{statement}
 use Rattle.fields.proofs.report_numbers.Tie as tie
 

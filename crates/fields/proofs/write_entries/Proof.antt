@@ -1,6 +1,6 @@
 -- `fields::write_entries` meets its contract. The loop's invariant: the slots passed are copied and the others are as they were. The
 -- measure is what is left. Assumes nothing.
-use mathlib.Core.Path.{_≡_, refl}
+use mathlib.Core.Path.{_≡_}
 use Prim.Native.Nat.{_-_}
 use native.Mathlib.Omega.{arith}
 use lib.IntN.{pos}
