@@ -16,7 +16,8 @@ use Rattle.circuits.specs.Reading.{gate}
 use Rattle.circuits.specs.Codes.{gate-code}
 use Rattle.circuits.specs.Answers.{control, gate-answer}
 use Rattle.circuits.proofs.Codes.{gate-decided}
-use Rattle.circuits.proofs.Remaining.{Remaining, remaining-next}
+use Rattle.circuits.specs.Remaining.{Remaining}
+use Rattle.circuits.proofs.Remaining.{remaining-next}
 use Rattle.plans.specs.Prepare.{as-number}
 use Rattle.plans.specs.Prepare.{Controls}
 use Rattle.plans.specs.Layout.{Acts}

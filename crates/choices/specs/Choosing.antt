@@ -9,7 +9,7 @@ use Rattle.gates.specs.Gate.{Gate, Fits, All-fit, inverse}
 use Rattle.gates.specs.Rule.{decision, gate-rule}
 use Rattle.circuits.specs.Reading.{read, gate}
 use Rattle.circuits.specs.Codes.{gate-code}
-use Rattle.circuits.proofs.Remaining.{Remaining}
+use Rattle.circuits.specs.Remaining.{Remaining}
 use Rattle.plans.specs.Prepare.{as-number}
 use Rattle.plans.specs.Layout.{Acts}
 use Rattle.choices.specs.declared.Offsets.{Offsets}

@@ -14,6 +14,7 @@ use Rattle.gates.specs.Gate.{Gate, on, pair, Meant, one, two, unknown, meant}
 use Rattle.circuits.specs.declared.Limits.{Limits}
 use Rattle.circuits.specs.Refusals.{bad-qubit-count, bad-gate-count}
 use Rattle.circuits.specs.Reading.{Reader, read, _>>=_, pure, number, qubit, target-qubit, operands, gate, gates}
+use Rattle.circuits.specs.Remaining.{Remaining}
 use Rattle.circuits.specs.Reading.{count, end, Circuit, body, list, decoded}
 use Rattle.circuits.proofs.Readings.{choice, refused-read, read-value, read-next, parts, Step, gates-step, gates-length}
 use Rattle.circuits.proofs.Checks.{qubit-checked, target-checked, count-checked}
@@ -58,10 +59,6 @@ gates-stay n zero = pure-stays []
 gates-stay n (suc m) = stays-then (gate-stays n) (λ g. stays-then (gates-stay n m) (λ gs. pure-stays (g ∷ gs)))
 
 -- ---- what is left
-
--- from the offset to the end the bytes are these gates
-abbrev pub Remaining : ℕ → List ℕ → ℕ → List Gate → Type 0
-Remaining n s at gs = gates n (length gs) s at ≡ read gs (length s)
 
 -- the first of them stands here, and the others are what is left after it
 abbrev pub Next : ℕ → List ℕ → ℕ → Gate → List Gate → Type 0

@@ -3,3 +3,4 @@ pub mod Reading
 pub mod Codes
 pub mod Answers
 pub mod Within
+pub mod Remaining

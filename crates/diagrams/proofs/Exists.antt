@@ -17,7 +17,8 @@ use Rattle.diagrams.specs.Diagram.{same-ref, same-node, put-value, put-n
 use Rattle.diagrams.proofs.Tests.{Decides, false-apart, ref-decides, node-decides}
 use Rattle.diagrams.proofs.Keeping.{Absent, all-snoc, distinct-snoc, Kept, found, fresh, kept}
 use Rattle.diagrams.proofs.Again.{Extends, extends-refl, extends-trans, make-node-alike, make-node-apart, reduce-ext}
-use Rattle.diagrams.proofs.Unique.{Seen, seen-more, both-map, Closed, closed-more, old-walk, prefix-all, rebuilds}
+use Rattle.diagrams.specs.Reference.{Seen, Closed}
+use Rattle.diagrams.proofs.Unique.{seen-more, both-map, closed-more, old-walk, prefix-all, rebuilds}
 
 abbrev nodes-used : {X : Type 0} → Store X → ℕ
 nodes-used s = length (s .nodes)

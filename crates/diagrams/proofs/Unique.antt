@@ -12,6 +12,7 @@ use lib.Dec.{eqb}
 use borrow.Author.Tests.{eqb-true, eqb-false}
 use Rattle.algebra.specs.Matrix.{Bits}
 use Rattle.diagrams.specs.Diagram.{Ref, value, node, Node, branch, Store, holding, Diagram, rooted, unused, node-at, reached, empty}
+use Rattle.diagrams.specs.Reference.{Seen, Closed}
 use Rattle.diagrams.specs.Diagram.{Both, From, Tidy, Walk, old-value, new-value, old-node, new-node, ReducedOf}
 use Rattle.diagrams.specs.Diagram.{same-node, make-node, reduce}
 use Rattle.diagrams.proofs.Tests.{Decides, apart-false, ref-decides, node-decides}
@@ -19,11 +20,6 @@ use Rattle.diagrams.proofs.Keeping.{Keeps, keep-old, keep-next}
 use Rattle.diagrams.proofs.Again.{make-node-apart, reduce-step, reduce-ext, reduce-alike}
 
 -- ---- what a walk leaves
-
--- the reference is to one of the first i nodes or the first j values
-abbrev pub Seen : Ref → ℕ → ℕ → Type 0
-Seen (value v) i j = v < j
-Seen (node n) i j = n < i
 
 pub seen-more : (i j i′ j′ : ℕ) → i ≤ i′ → j ≤ j′ → (r : Ref) → Seen r i j → Seen r i′ j′
 seen-more i j i′ j′ p q (value v) h = omega arith
@@ -33,14 +29,10 @@ pub both-map : {P Q : Ref → Type 0} (n : Node) → ((r : Ref) → P r → Q r)
 both-map n implies both = (implies (n .low) (both .0), implies (n .high) (both .1))
 
 module _ {X : Type 0} (s : Store X) where
-  -- the children of the first i nodes are among these, and the first j values
-  abbrev pub Closed : ℕ → ℕ → Type 0
-  Closed i j = (n : ℕ) → n < i → Both (λ r. Seen r i j) (node-at s n)
-
-  pub closed-more : (i j j′ : ℕ) → j ≤ j′ → Closed i j → Closed i j′
+  pub closed-more : (i j j′ : ℕ) → j ≤ j′ → Closed s i j → Closed s i j′
   closed-more i j j′ p closed n h = both-map (node-at s n) (seen-more i j i j′ (omega arith) p) (closed n h)
 
-  closed-suc : (i j : ℕ) → Closed i j → Both (λ r. Seen r i j) (node-at s i) → Closed (suc i) j
+  closed-suc : (i j : ℕ) → Closed s i j → Both (λ r. Seen r i j) (node-at s i) → Closed s (suc i) j
   closed-suc i j closed last n h = by-order (decLt n i)
     where
       more : (n : ℕ) → Both (λ r. Seen r i j) (node-at s n) → Both (λ r. Seen r (suc i) j) (node-at s n)
@@ -56,9 +48,9 @@ module _ {X : Type 0} (s : Store X) where
     pub more-nodes : i ≤ i′
     pub more-values : j ≤ j′
     pub seen : Seen r i′ j′
-    pub closed : Closed i′ j′
+    pub closed : Closed s i′ j′
 
-  pub walked : {r : Ref} {i j i′ j′ : ℕ} → Walk s r i j i′ j′ → Closed i j → Walked r i j i′ j′
+  pub walked : {r : Ref} {i j i′ j′ : ℕ} → Walk s r i j i′ j′ → Closed s i j → Walked r i j i′ j′
   walked (old-value h) closed = record { more-nodes = omega arith; more-values = omega arith; seen = h; closed = closed }
   walked (new-value {i = i} {j = j}) closed = record {
     more-nodes = omega arith;
@@ -95,7 +87,7 @@ module _ {X : Type 0} (s : Store X) where
 
     -- what r gives from a level on, reduced into the store as the walk found it, leaves the store as the walk leaves it
     abbrev Rebuilds : ℕ → ℕ → Type 0
-    Rebuilds left level = (r : Ref) (i j i′ j′ : ℕ) → From s level r → Walk s r i j i′ j′ → Closed i j → i′ ≤ length (s .nodes) → j′ ≤ length (s .values)
+    Rebuilds left level = (r : Ref) (i j i′ j′ : ℕ) → From s level r → Walk s r i j i′ j′ → Closed s i j → i′ ≤ length (s .nodes) → j′ ≤ length (s .values)
         → reduce same left level (reached blank s level r) (prefix i j) ≡ rooted (prefix i′ j′) r
 
     rebuilds-value : (level v i j i′ j′ : ℕ) → Walk s (value v) i j i′ j′ → j′ ≤ length (s .values)
@@ -139,7 +131,7 @@ module _ {X : Type 0} (s : Store X) where
     child-rises : (level n : ℕ) (r : Ref) → eqb (node-at s n .level) level ≡ true → From s (suc (node-at s n .level)) r → From s (suc level) r
     child-rises level n r e h = subst (λ (d : ℕ). From s (suc d) r) (eqb-true (node-at s n .level) level e) h
 
-    rebuilds-asked : (left level n i j i′ j′ : ℕ) → eqb (node-at s n .level) level ≡ true → Walk s (node n) i j i′ j′ → Closed i j
+    rebuilds-asked : (left level n i j i′ j′ : ℕ) → eqb (node-at s n .level) level ≡ true → Walk s (node n) i j i′ j′ → Closed s i j
         → i′ ≤ length (s .nodes) → j′ ≤ length (s .values) → Rebuilds left (suc level)
         → reduce same (suc left) level (reached blank s level (node n)) (prefix i j) ≡ rooted (prefix i′ j′) (node n)
     rebuilds-asked left level n i j i′ j′ e (old-node h) closed p q below =
@@ -161,7 +153,7 @@ module _ {X : Type 0} (s : Store X) where
 
     -- a level that the reference does not ask for
     rebuilds-passed : (left level : ℕ) (r : Ref) (i j i′ j′ : ℕ) → ((b : Bool) → (λ l. reached blank s level r (b ∷ l)) ≡ reached blank s (suc level) r)
-        → From s (suc level) r → Walk s r i j i′ j′ → Closed i j → i′ ≤ length (s .nodes) → j′ ≤ length (s .values) → Rebuilds left (suc level)
+        → From s (suc level) r → Walk s r i j i′ j′ → Closed s i j → i′ ≤ length (s .nodes) → j′ ≤ length (s .values) → Rebuilds left (suc level)
         → reduce same (suc left) level (reached blank s level r) (prefix i j) ≡ rooted (prefix i′ j′) r
     rebuilds-passed left level r i j i′ j′ past from walk closed p q rebuilds =
         let after = walked walk closed in

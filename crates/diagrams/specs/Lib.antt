@@ -1,1 +1,2 @@
 pub mod Diagram
+pub mod Reference

@@ -29,8 +29,9 @@ use Rattle.miters.specs.Report.{lowest, forbids, verdict-by, verdict, finished,
 use Rattle.miters.specs.Run.{Lent, Ended, done, stopped, Outcome, outcome, judged}
 use Rattle.miters.proofs.Schedules.{miter-power}
 use Rattle.miters.proofs.Scalars.{turns-unique}
-use Rattle.miters.proofs.Runs.{Ends, ended-ends, ends-only, Answered, judged-miter, Agree, two-runs}
-use Rattle.miters.proofs.Verdicts.{Says, verdict-says, verdict-equal-iff}
+use Rattle.miters.specs.Claims.{Says, Ends, Answered, Agree}
+use Rattle.miters.proofs.Runs.{ended-ends, ends-only, judged-miter, two-runs}
+use Rattle.miters.proofs.Verdicts.{verdict-says, verdict-equal-iff}
 use Rattle.checks.specs.Checks.{lengths, Checks, refuses, passes}
 use Rattle.judges.specs.Answer.{lent, answer-by, answer}
 use Rattle.judges.specs.Calls.{leaving}

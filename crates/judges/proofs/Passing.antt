@@ -9,7 +9,8 @@ use lib.ListN.{length}
 use Rattle.circuits.specs.Refusals.{base-limits}
 use Rattle.circuits.specs.Reading.{Circuit}
 use Rattle.circuits.specs.Within.{Within}
-use Rattle.circuits.proofs.Remaining.{Remaining, decoded-accepted}
+use Rattle.circuits.specs.Remaining.{Remaining}
+use Rattle.circuits.proofs.Remaining.{decoded-accepted}
 use Rattle.circuits.proofs.Within.{decoded-within}
 use Rattle.stores.specs.Columns.{Columns}
 use Rattle.miters.specs.declared.Refusal.{Refusal}

@@ -17,8 +17,7 @@ use Rattle.miters.specs.declared.Verdict.the-variants.{Equal as equal-with, Ref
 use Rattle.miters.specs.Miter.{steps, corner, miter, Turns, Equal}
 use Rattle.miters.specs.Report.{refused}
 use Rattle.miters.specs.Run.{Lent, stopped, Outcome}
-use Rattle.miters.proofs.Runs.{Ends, Agree}
-use Rattle.miters.proofs.Verdicts.{Says}
+use Rattle.miters.specs.Claims.{Says, Ends, Agree}
 use Rattle.checks.specs.Checks.{lengths, Checks, refuses, passes}
 use Rattle.judges.specs.Answer.{lent, answer}
 use Rattle.judges.specs.Calls.{leaving}

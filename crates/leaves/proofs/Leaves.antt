@@ -15,7 +15,7 @@ use Rattle.algebra.specs.Entry.{_⊕_, _⊖_, turned}
 use Rattle.diagrams.specs.Diagram.{value, Store, ref-of}
 use Rattle.diagrams.proofs.Tests.{both-true}
 use Rattle.transitions.specs.State.{Mode, mode-of}
-use Rattle.transitions.specs.Source.{ValuesHeld, entry-in, Refers, Holds-slot}
+use Rattle.transitions.specs.Source.{SourceValues, source-entry, Refers, Holds-slot}
 use Rattle.transitions.specs.Next.{numbered, is-value, is-leaf-by, is-leaf, entry-of, leaf-entry}
 use Rattle.transitions.proofs.Codes.{ref-of-odd, ref-of-even, mode-turning, mode-adding, mode-subtracting, mode-waiting, mode-choosing, mode-pair}
 
@@ -70,24 +70,24 @@ value-half x is-one = by-test (eqb (x % 2) 0) refl
     by-test true e = ref-of-even x (even (eqb-true _ _ e))
     by-test false e = absurd (true≢false (sym is-one ∙ value-false x (eqb-false _ _ e)))
 
-module _ (s : Store Entry) (vals : List (List ℤ)) (x : ℕ) (held : ValuesHeld s vals) (refers : Refers s (ref-of x)) (is-one : is-value (ref-of x) ≡ true) where
+module _ (s : Store Entry) (vals : List (List ℤ)) (x : ℕ) (held : SourceValues s vals) (refers : Refers s (ref-of x)) (is-one : is-value (ref-of x) ≡ true) where
   value-refers : x / 2 < length (s .values)
   value-refers = rw (value-half x is-one) at refers
 
   pub value-slot : Holds-slot vals (x / 2)
   value-slot c below = let used = value-refers in let long = held .long c below in omega arith
 
-  pub entry-read : entry-in vals (x / 2) ≡ entry-of s (ref-of x)
+  pub entry-read : source-entry vals (x / 2) ≡ entry-of s (ref-of x)
   entry-read = rw (value-half x is-one) (held .entry-at (x / 2) value-refers)
 
-module _ (s : Store Entry) (vals : List (List ℤ)) (x y m : ℕ) (held : ValuesHeld s vals) (x-refers : Refers s (ref-of x)) where
-  pub leaf-turning : {e : Entry} → m < 8 → is-leaf (numbered x y m) ≡ true → e ≡ entry-in vals (x / 2) → turned m e ≡ leaf-entry s (numbered x y m)
+module _ (s : Store Entry) (vals : List (List ℤ)) (x y m : ℕ) (held : SourceValues s vals) (x-refers : Refers s (ref-of x)) where
+  pub leaf-turning : {e : Entry} → m < 8 → is-leaf (numbered x y m) ≡ true → e ≡ source-entry vals (x / 2) → turned m e ≡ leaf-entry s (numbered x y m)
   unfolding is-leaf leaf-entry
   leaf-turning small leaf e-is =
       rw (mode-turning m small) (ap (turned m) (e-is ∙ entry-read s vals x held x-refers (rw (mode-turning m small) at leaf)))
 
-  module _ (y-refers : Refers s (ref-of y)) (leaf : is-leaf (numbered x y m) ≡ true) {e f : Entry} (e-is : e ≡ entry-in vals (x / 2))
-      (f-is : f ≡ entry-in vals (y / 2)) where
+  module _ (y-refers : Refers s (ref-of y)) (leaf : is-leaf (numbered x y m) ≡ true) {e f : Entry} (e-is : e ≡ source-entry vals (x / 2))
+      (f-is : f ≡ source-entry vals (y / 2)) where
     entries-read : 8 ≤ m → m < 16 → (e ≡ entry-of s (ref-of x)) × (f ≡ entry-of s (ref-of y))
     entries-read low high =
         let (x-value, y-value) = both-true (is-value (ref-of x)) (is-value (ref-of y)) (leaf-test x y m low high ∙ leaf) in

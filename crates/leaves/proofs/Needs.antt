@@ -11,7 +11,7 @@ use Rattle.diagrams.specs.Diagram.{Store, ref-of}
 use Rattle.transitions.specs.declared.State.{State}
 use Rattle.transitions.specs.Plan.{Plan}
 use Rattle.transitions.specs.State.{Mode, turning, adding, subtracting, waiting, choosing, mode-of, top}
-use Rattle.transitions.specs.Source.{NodesHeld, ValuesHeld, Refers, Readable, Holds-slot}
+use Rattle.transitions.specs.Source.{SourceNodes, SourceValues, Refers, Readable, Holds-slot}
 use Rattle.transitions.specs.Next.{is-value, is-leaf-by, is-leaf}
 use Rattle.transitions.specs.Valid.{ValidPlan, ValidState, Suits, Staged, Usable}
 use Rattle.diagrams.proofs.Tests.{both-true}
@@ -20,7 +20,7 @@ use Rattle.leaves.proofs.Leaves.{value-slot}
 
 -- ---- nodes
 
-pub readable : (s : Store Entry) (cols : List (List ℕ)) (x : ℕ) → NodesHeld s cols → Refers s (ref-of x) → Readable cols x
+pub readable : (s : Store Entry) (cols : List (List ℕ)) (x : ℕ) → SourceNodes s cols → Refers s (ref-of x) → Readable cols x
 readable s cols x held refers odd c below =
     let used = rw (ref-of-odd x odd) at refers in
     let long = held .long c below in
@@ -35,7 +35,7 @@ module _ (plan : Plan) (s : Store Entry) (valid : ValidPlan plan s) where
       let up-to = suits .0 in let target-below = valid .has-target in let few = valid .few-stages in omega arith
   staged level (choosing k e) x y suits = let below = suits .1 in let few = valid .few-stages in omega arith
 
-  pub usable : (cols : List (List ℕ)) (σ : State) → NodesHeld s cols → ValidState plan s σ → Usable plan cols σ
+  pub usable : (cols : List (List ℕ)) (σ : State) → SourceNodes s cols → ValidState plan s σ → Usable plan cols σ
   usable cols σ held ok = record {
     x-readable = readable s cols (σ .x) held (ok .x-refers);
     y-readable = readable s cols (σ .y) held (ok .y-refers);
@@ -47,7 +47,7 @@ module _ (plan : Plan) (s : Store Entry) (valid : ValidPlan plan s) where
 
 -- ---- values
 
-module _ (plan : Plan) (s : Store Entry) (vals : List (List ℤ)) (held : ValuesHeld s vals) where
+module _ (plan : Plan) (s : Store Entry) (vals : List (List ℤ)) (held : SourceValues s vals) where
   leaf-slots-by : (level : ℕ) (m : Mode) (x y : ℕ) → Suits plan level m x y → Refers s (ref-of x) → Refers s (ref-of y)
       → is-leaf-by m (ref-of x) (ref-of y) ≡ true → Holds-slot vals (x / 2) × Holds-slot vals (y / 2)
   leaf-slots-by level (turning e) x y suits x-refers y-refers leaf =

@@ -7,7 +7,7 @@ ghost use Prim.Native.Nat.{_/_, _<_};
 ghost use lib.IntN.{pos};
 ghost use lib.ListN.{getD};
 ghost use Rattle.algebra.specs.Width.{bounded};
-ghost use Rattle.transitions.specs.Source.{entry-in, Holds-slot, Reading-leaf};
+ghost use Rattle.transitions.specs.Source.{source-entry, Holds-slot, Reading-leaf};
 ghost use Rattle.transitions.specs.Next.{numbered, is-leaf, leaf-entry};
 
 pub fn is_leaf(x: u32, y: u32, mode: u32) -> bool
@@ -33,7 +33,7 @@ fn number_at(values: &[&[i32]; 4], part: usize, j: u32) -> i32
 
 fn entry_at(values: &[&[i32]; 4], j: u32) -> Entry
     requires { ⌜ Holds-slot (map now (now values)) j ⌝ }
-    ensures { λ r. ⌜ r ≡ entry-in (map now (now (values .entry))) j ⌝ }
+    ensures { λ r. ⌜ r ≡ source-entry (map now (now (values .entry))) j ⌝ }
 {
     Entry {
         a: number_at(values, 0, j),

@@ -5,7 +5,7 @@ use mathlib.Core.Path.{_≡_, refl, sym, _∙_, ap, ap₂, subst, _≡⟨_⟩_, 
 use mathlib.Core.Bool.{Bool, true, false, cond, _&&_, true≢false}
 use mathlib.Core.List.{List, [], _∷_, _++_, map, append-nil}
 use mathlib.Core.Logic.{_↔_}
-use Prim.Native.Nat.{ℕ, zero, suc, _+_, _-_, _<_}
+use Prim.Native.Nat.{ℕ, zero, suc, _+_, _-_}
 use native.Mathlib.Nat.{add-zero, zero-add}
 use native.Mathlib.Omega.{arith}
 use lib.Dec.{eqb, leb, leb·suc-zero, leb·suc-suc}
@@ -19,17 +19,17 @@ use Rattle.algebra.specs.Width.{entryInWidth}
 use Rattle.gates.specs.Gate.{Gate, All-fit}
 use Rattle.schedules.specs.Schedule.{count, only-steps, fits}
 use Rattle.diagrams.specs.Diagram.{node, code, Node, Diagram, ReducedOf, levels, place, rows, columns, entries, diagram}
-use Rattle.stores.specs.Columns.{Columns, column, held, cleared}
+use Rattle.stores.specs.Columns.{Columns, column, held}
 use Rattle.diagrams.proofs.Tests.{both-true, true-both}
 use Rattle.diagrams.proofs.Places.{length-place, length-halves, place-halves}
 use Rattle.stores.proofs.Columns.{take-column}
 use Rattle.diagrams.proofs.Diagrams.{diagram-unique}
 use Rattle.miters.specs.declared.Refusal.{Refusal}
 use Rattle.miters.specs.declared.Refusal.the-variants.{Step as at-step}
-use Rattle.miters.specs.declared.Verdict.the-variants.{Refused}
 use Rattle.miters.specs.Miter.{Over, start, Step, stepped, run, steps, miter}
 use Rattle.miters.specs.Report.{finished, refused}
 use Rattle.miters.specs.Run.{Lent, in-width, has-room, Ended, done, stopped, follow, ended, Outcome, outcome, judged, used}
+use Rattle.miters.specs.Claims.{Pass, Follows, finishes, too-wide, too-full, Ends, full-at-once, follows, Answered, Agree}
 use Rattle.miters.proofs.Schedules.{schedule-miter}
 use Rattle.miters.proofs.Roots.{miter-root}
 
@@ -69,42 +69,26 @@ abbrev Unstopped : Ended → Type 0
 Unstopped e = (r : Refusal) → e ≡ stopped r → ⊥
 
 module _ (lent : Lent) (n : ℕ) where
-  -- what the first k steps come to
-  abbrev pub after : Over → List Step → ℕ → Matrix
-  after M ss k = run n (take k ss) M .entries
-
-  -- the products of the first k steps are in the width and have room
-  abbrev pub Pass : Over → List Step → ℕ → Type 0
-  Pass M ss k = (i : ℕ) → i < k → (in-width lent n (after M ss (suc i)) ≡ true) × (has-room lent n (after M ss (suc i)) ≡ true)
-
-  -- all steps are taken; or those before step k + 1, whose product has a number outside the width, or is within it and has no room
-  pub data Follows (before : ℕ) (M : Over) (ss : List Step) : Ended → Type 0 where
-    finishes : Pass M ss (length ss) → Follows before M ss (done (before + length ss) (run n ss M))
-    too-wide : (k : ℕ) → k < length ss → Pass M ss k → in-width lent n (after M ss (suc k)) ≡ false
-        → Follows before M ss (stopped (at-step 13 (before + k)))
-    too-full : (k : ℕ) → k < length ss → Pass M ss k → in-width lent n (after M ss (suc k)) ≡ true → has-room lent n (after M ss (suc k)) ≡ false
-        → Follows before M ss (stopped (at-step 14 (before + k)))
-
-  pass-none : (M : Over) (ss : List Step) → Pass M ss 0
+  pass-none : (M : Over) (ss : List Step) → Pass lent n M ss 0
   pass-none M ss i h = absurd (omega arith)
 
   module _ (before : ℕ) (M : Over) (s : Step) (ss : List Step) where
     abbrev next : Over
     next = stepped n s M
 
-    pass-cons : (k : ℕ) → in-width lent n (next .entries) ≡ true → has-room lent n (next .entries) ≡ true → Pass next ss k → Pass M (s ∷ ss) (suc k)
+    pass-cons : (k : ℕ) → in-width lent n (next .entries) ≡ true → has-room lent n (next .entries) ≡ true → Pass lent n next ss k → Pass lent n M (s ∷ ss) (suc k)
     pass-cons k wide room pass zero h = (wide, room)
     pass-cons k wide room pass (suc i) h = pass i (omega arith)
 
     follows-cons : {e : Ended} → in-width lent n (next .entries) ≡ true → has-room lent n (next .entries) ≡ true
-        → Follows (suc before) next ss e → Follows before M (s ∷ ss) e
+        → Follows lent n (suc before) next ss e → Follows lent n before M (s ∷ ss) e
     follows-cons wide room (finishes pass) =
-        subst (λ (k : ℕ). Follows before M (s ∷ ss) (done k (run n ss next))) (omega arith) (finishes (pass-cons (length ss) wide room pass))
+        subst (λ (k : ℕ). Follows lent n before M (s ∷ ss) (done k (run n ss next))) (omega arith) (finishes (pass-cons (length ss) wide room pass))
     follows-cons wide room (too-wide k h pass out) =
-        subst (λ (i : ℕ). Follows before M (s ∷ ss) (stopped (at-step 13 i))) (omega arith)
+        subst (λ (i : ℕ). Follows lent n before M (s ∷ ss) (stopped (at-step 13 i))) (omega arith)
         (too-wide (suc k) (omega arith) (pass-cons k wide room pass) out)
     follows-cons wide room (too-full k h pass fit out) =
-        subst (λ (i : ℕ). Follows before M (s ∷ ss) (stopped (at-step 14 i))) (omega arith)
+        subst (λ (i : ℕ). Follows lent n before M (s ∷ ss) (stopped (at-step 14 i))) (omega arith)
         (too-full (suc k) (omega arith) (pass-cons k wide room pass) fit out)
 
     pub follow-too-wide : in-width lent n (next .entries) ≡ false → follow lent n before (s ∷ ss) M ≡ stopped (at-step 13 before)
@@ -119,45 +103,40 @@ module _ (lent : Lent) (n : ℕ) where
     follow-on wide room = rw (wide, room)
 
     follows-step : (a b : Bool) → in-width lent n (next .entries) ≡ a → has-room lent n (next .entries) ≡ b
-        → Follows (suc before) next ss (follow lent n (suc before) ss next) → Follows before M (s ∷ ss) (follow lent n before (s ∷ ss) M)
-    follows-step false b wide room onward = subst (Follows before M (s ∷ ss))
+        → Follows lent n (suc before) next ss (follow lent n (suc before) ss next) → Follows lent n before M (s ∷ ss) (follow lent n before (s ∷ ss) M)
+    follows-step false b wide room onward = subst (Follows lent n before M (s ∷ ss))
         (ap (λ (i : ℕ). stopped (at-step 13 i)) (add-zero before) ∙ sym (follow-too-wide wide)) (too-wide 0 (omega arith) (pass-none M (s ∷ ss)) wide)
-    follows-step true false wide room onward = subst (Follows before M (s ∷ ss))
+    follows-step true false wide room onward = subst (Follows lent n before M (s ∷ ss))
         (ap (λ (i : ℕ). stopped (at-step 14 i)) (add-zero before) ∙ sym (follow-too-full wide room)) (too-full 0 (omega arith) (pass-none M (s ∷ ss)) wide room)
-    follows-step true true wide room onward = subst (Follows before M (s ∷ ss)) (sym (follow-on wide room)) (follows-cons wide room onward)
+    follows-step true true wide room onward = subst (Follows lent n before M (s ∷ ss)) (sym (follow-on wide room)) (follows-cons wide room onward)
 
-  follow-follows : (before : ℕ) (ss : List Step) (M : Over) → Follows before M ss (follow lent n before ss M)
-  follow-follows before [] M = subst (λ (k : ℕ). Follows before M [] (done k M)) (add-zero before) (finishes (pass-none M []))
+  follow-follows : (before : ℕ) (ss : List Step) (M : Over) → Follows lent n before M ss (follow lent n before ss M)
+  follow-follows before [] M = subst (λ (k : ℕ). Follows lent n before M [] (done k M)) (add-zero before) (finishes (pass-none M []))
   follow-follows before (s ∷ ss) M =
       let M′ = stepped n s M in
       follows-step before M s ss (in-width lent n (M′ .entries)) (has-room lent n (M′ .entries)) refl refl (follow-follows (suc before) ss M′)
 
-  -- the identity has no room, or the steps are followed from it
-  pub data Ends (ss : List Step) : Ended → Type 0 where
-    full-at-once : has-room lent n (start .entries) ≡ false → Ends ss (stopped (at-step 14 0))
-    follows : {e : Ended} → has-room lent n (start .entries) ≡ true → Follows 0 start ss e → Ends ss e
-
-  pub ended-ends : (ss : List Step) → Ends ss (ended lent n ss)
+  pub ended-ends : (ss : List Step) → Ends lent n ss (ended lent n ss)
   unfolding ended
   ended-ends ss = by-test (has-room lent n (start .entries)) refl
     where
-      by-test : (b : Bool) → has-room lent n (start .entries) ≡ b → Ends ss (cond b (follow lent n 0 ss start) (stopped (at-step 14 0)))
+      by-test : (b : Bool) → has-room lent n (start .entries) ≡ b → Ends lent n ss (cond b (follow lent n 0 ss start) (stopped (at-step 14 0)))
       by-test true room = follows room (follow-follows 0 ss start)
       by-test false room = full-at-once room
 
   -- it ends so in no other way
   module _ (before : ℕ) (M : Over) (s : Step) (ss : List Step) where
     abbrev Rest-only : Type 0
-    Rest-only = (e : Ended) → Follows (suc before) (stepped n s M) ss e → follow lent n (suc before) ss (stepped n s M) ≡ e
+    Rest-only = (e : Ended) → Follows lent n (suc before) (stepped n s M) ss e → follow lent n (suc before) ss (stepped n s M) ≡ e
 
-    pass-rest : (k : ℕ) → Pass M (s ∷ ss) (suc k) → Pass (stepped n s M) ss k
+    pass-rest : (k : ℕ) → Pass lent n M (s ∷ ss) (suc k) → Pass lent n (stepped n s M) ss k
     pass-rest k pass i h = pass (suc i) (omega arith)
 
-    passed-on : (k : ℕ) → Pass M (s ∷ ss) (suc k) → {e : Ended} → Follows (suc before) (stepped n s M) ss e → Rest-only
+    passed-on : (k : ℕ) → Pass lent n M (s ∷ ss) (suc k) → {e : Ended} → Follows lent n (suc before) (stepped n s M) ss e → Rest-only
         → follow lent n before (s ∷ ss) M ≡ e
     passed-on k pass rest only = let first = pass 0 (omega arith) in follow-on before M s ss (first .0) (first .1) ∙ only _ rest
 
-    follows-step-only : Rest-only → {e : Ended} → Follows before M (s ∷ ss) e → follow lent n before (s ∷ ss) M ≡ e
+    follows-step-only : Rest-only → {e : Ended} → Follows lent n before M (s ∷ ss) e → follow lent n before (s ∷ ss) M ≡ e
     follows-step-only only (finishes pass) =
         passed-on (length ss) pass (finishes (pass-rest (length ss) pass)) only ∙ ap (λ (k : ℕ). done k (run n ss (stepped n s M))) (omega arith)
     follows-step-only only (too-wide zero h pass out) =
@@ -169,18 +148,18 @@ module _ (lent : Lent) (n : ℕ) where
     follows-step-only only (too-full (suc k) h pass fit out) =
         passed-on k pass (too-full k (omega arith) (pass-rest k pass) fit out) only ∙ ap (λ (i : ℕ). stopped (at-step 14 i)) (omega arith)
 
-  follows-only : (before : ℕ) (ss : List Step) (M : Over) {e : Ended} → Follows before M ss e → follow lent n before ss M ≡ e
+  follows-only : (before : ℕ) (ss : List Step) (M : Over) {e : Ended} → Follows lent n before M ss e → follow lent n before ss M ≡ e
   follows-only before [] M (finishes pass) = ap (λ (k : ℕ). done k M) (sym (add-zero before))
   follows-only before [] M (too-wide k h pass out) = absurd (omega arith)
   follows-only before [] M (too-full k h pass fit out) = absurd (omega arith)
   follows-only before (s ∷ ss) M on = follows-step-only before M s ss (λ e rest. follows-only (suc before) ss (stepped n s M) rest) on
 
-  pub ends-only : (ss : List Step) {e : Ended} → Ends ss e → ended lent n ss ≡ e
+  pub ends-only : (ss : List Step) {e : Ended} → Ends lent n ss e → ended lent n ss ≡ e
   unfolding ended
   ends-only ss (full-at-once room) = rw room
   ends-only ss (follows room on) = rw room (follows-only 0 ss start on)
 
-  unstopped-done : (ss : List Step) {e : Ended} → Ends ss e → Unstopped e → e ≡ done (length ss) (run n ss start)
+  unstopped-done : (ss : List Step) {e : Ended} → Ends lent n ss e → Unstopped e → e ≡ done (length ss) (run n ss start)
   unstopped-done ss (full-at-once room) unstopped = absurd (unstopped _ refl)
   unstopped-done ss (follows room (finishes pass)) unstopped = ap (λ (k : ℕ). done k (run n ss start)) (zero-add (length ss))
   unstopped-done ss (follows room (too-wide k h pass out)) unstopped = absurd (unstopped _ refl)
@@ -235,9 +214,6 @@ used-held lent n k M =
 
 -- ---- what a run leaves that is not refused
 
-abbrev pub Answered : Outcome → Type 0
-Answered o = (r : Refusal) → o .report .verdict ≡ Refused r → ⊥
-
 answered-unstopped : (lent : Lent) (n : ℕ) (e : Ended) → Answered (outcome lent n e) → Unstopped e
 unfolding refused
 answered-unstopped lent n e answered r is = answered r (ap (λ (x : Ended). outcome lent n x .report .verdict) is)
@@ -254,18 +230,6 @@ judged-miter lent n s us vs first second fit answered =
     outcome lent n (done (length us + length vs) (miter n us vs)) ∎
 
 -- ---- two runs
-
--- two outcomes agree in every field of the report and in the used part of the first store, which is the diagram D: its nodes
--- and values are as many as the report says and stand in their slots, and its root is the last node; the second stores are all 0
-pub record Agree (lent lent′ : Lent) (D : Diagram Entry) (o p : Outcome) : Type 0 where
-  pub reports : o .report ≡ p .report
-  pub used-parts : used o ≡ used p
-  pub used-is : used o ≡ held (length (D .store .nodes)) (length (D .store .values)) (D .store)
-  pub nodes-are : o .report .nodes ≡ length (D .store .nodes)
-  pub values-are : o .report .values ≡ length (D .store .values)
-  pub root-is : (i : ℕ) × (D .root ≡ node i) × (suc i ≡ length (D .store .nodes))
-  pub second-is : o .second ≡ cleared (lent .nodes) (lent .values)
-  pub second-is′ : p .second ≡ cleared (lent′ .nodes) (lent′ .values)
 
 -- over all lists whose gates fit, all schedules that fit, all widths and store sizes, and all earlier contents
 pub two-runs : (n : ℕ) (us vs : List Gate) → All-fit (suc n) us → All-fit (suc n) vs

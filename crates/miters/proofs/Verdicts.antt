@@ -23,16 +23,12 @@ use Rattle.miters.specs.declared.Difference.{Difference}
 use Rattle.miters.specs.declared.Verdict.{Verdict}
 use Rattle.miters.specs.declared.Verdict.the-variants.{Equal as equal-with, Different}
 use Rattle.miters.specs.Miter.{corner, miter, Turns, Equal, Scalar}
+use Rattle.miters.specs.Claims.{Least, Says, says-equal, says-different}
 use Rattle.miters.proofs.Scalars.{scalar-turns, equal-iff-scalar}
 use Rattle.miters.proofs.Schedules.{miter-power}
 use Rattle.miters.specs.Report.{number, forbids, lower, lowest, difference, verdict-by, verdict}
 
 -- ---- the lowest bits that pass a test
-
-pub record Least (k : ℕ) (test : Bits → Bool) (l : Bits) : Type 0 where
-  pub long : length l ≡ k
-  pub passes : test l ≡ true
-  pub lower-fail : (m : Bits) → length m ≡ k → number m < number l → test m ≡ false
 
 pub data Searched (k : ℕ) (test : Bits → Bool) : Option Bits → Type 0 where
   nowhere : ((l : Bits) → length l ≡ k → test l ≡ false) → Searched k test none
@@ -120,14 +116,6 @@ module _ (n : ℕ) (M : Matrix) where
   clear-iff-scalar = (clear-scalar, scalar-clear)
 
 -- ---- the verdict on two lists
-
--- equal, with the corner, which over √2 to the miter's exponent turns V's matrix into U's; or different, with the lowest place
--- that forbids equality
-pub data Says (n : ℕ) (us vs : List Gate) : Verdict → Type 0 where
-  says-equal : Equal n us vs → Turns n us vs (corner n (miter n us vs .entries)) (miter n us vs .power)
-      → Says n us vs (equal-with (corner n (miter n us vs .entries)))
-  says-different : (Equal n us vs → ⊥) → (l : Bits) → Least (levels n) (forbids n (miter n us vs .entries)) l
-      → Says n us vs (Different (difference n (miter n us vs .entries) l))
 
 module _ (n : ℕ) (us vs : List Gate) (fit : All-fit n vs) where
   abbrev W : Matrix

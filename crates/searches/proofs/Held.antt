@@ -11,7 +11,8 @@ use Rattle.algebra.specs.Matrix.{Matrix}
 use Rattle.diagrams.specs.Diagram.{Ref, node, code, ref-of, Node, branch, Store, holding, unused, Tidy, levels, diagram}
 use Rattle.stores.specs.Columns.{Columns, columns, held, NodeColumns, ValueColumns}
 use Rattle.uniques.specs.UniqueTable.{node-in}
-use Rattle.diagrams.proofs.Unique.{Closed, walked}
+use Rattle.diagrams.specs.Reference.{Closed}
+use Rattle.diagrams.proofs.Unique.{walked}
 use Rattle.diagrams.proofs.References.{ref-of-code}
 use Rattle.uniques.proofs.Chains.{length-listed}
 use Rattle.stores.proofs.Stores.{listed-all}

@@ -16,7 +16,7 @@ use Rattle.stores.specs.Columns.{Columns, zero-ref}
 use Rattle.uniques.specs.UniqueTable.{full, node-in}
 use Rattle.diagrams.proofs.Tests.{entry-decides, false-apart}
 use Rattle.diagrams.proofs.Keeping.{Kept, found, fresh, kept}
-use Rattle.diagrams.proofs.Unique.{Seen, Closed}
+use Rattle.diagrams.specs.Reference.{Seen, Closed}
 use Rattle.uniques.proofs.Chains.{length-listed, getD-listed}
 use Rattle.searches.specs.Slots.{store-in, value-at, cofactor, landing}
 use Rattle.searches.specs.Ready.{Used}

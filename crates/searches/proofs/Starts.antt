@@ -14,7 +14,7 @@ use Rattle.diagrams.specs.Diagram.{Ref, node, ref-of, Store, reached, From, lev
 use Rattle.stores.specs.Columns.{Columns, ValueColumns, zero-ref}
 use Rattle.uniques.specs.UniqueTable.{full}
 use Rattle.diagrams.proofs.Places.{levels-double}
-use Rattle.diagrams.proofs.Unique.{Seen}
+use Rattle.diagrams.specs.Reference.{Seen}
 use Rattle.miters.specs.declared.Verdict.the-variants.{Equal, Different}
 use Rattle.miters.specs.Miter.{corner}
 use Rattle.miters.specs.Report.{verdict}

@@ -8,7 +8,7 @@ use Rattle.algebra.specs.Entry.{𝟘}
 use Rattle.diagrams.specs.Diagram.{Tidy, levels}
 use Rattle.stores.specs.Columns.{Columns, NodeColumns, ValueColumns}
 use Rattle.uniques.specs.UniqueTable.{full}
-use Rattle.diagrams.proofs.Unique.{Closed}
+use Rattle.diagrams.specs.Reference.{Closed}
 use Rattle.searches.specs.declared.Found.the-variants.{Nowhere}
 use Rattle.searches.specs.declared.Task.{Task}
 use Rattle.searches.specs.Slots.{store-in, cofactor}

@@ -17,7 +17,7 @@ use Rattle.algebra.specs.declared.Entry.{Entry}
 use Rattle.diagrams.specs.Diagram.{code, Store, node-at, ref-of}
 use Rattle.transitions.specs.Plan.{Plan}
 use Rattle.transitions.specs.State.{level-of}
-use Rattle.transitions.specs.Source.{NodesHeld, Refers}
+use Rattle.transitions.specs.Source.{SourceNodes, Refers}
 use Rattle.transitions.specs.Next.{cofactor}
 use Rattle.transitions.proofs.Codes.{ref-of-odd, ref-of-even}
 
@@ -43,11 +43,11 @@ module _ (s : Store Entry) (x : ℕ) (refers : Refers s (ref-of x)) where
     node-refers : x / 2 < length (s .nodes)
     node-refers = rw (ref-of-odd x odd) at refers
 
-    pub level-at-node : (plan : Plan) (cols : List (List ℕ)) → NodesHeld s cols → getD (getD cols 0 []) (x / 2) 0 ≡ level-of plan s (ref-of x)
+    pub level-at-node : (plan : Plan) (cols : List (List ℕ)) → SourceNodes s cols → getD (getD cols 0 []) (x / 2) 0 ≡ level-of plan s (ref-of x)
     level-at-node plan cols held = rw (ref-of-odd x odd) (held .level-at (x / 2) node-refers)
 
     -- it asks at this level
-    pub cofactor-asked : (cols : List (List ℕ)) → NodesHeld s cols → (level bit : ℕ) → bit < 2 → getD (getD cols 0 []) (x / 2) 0 ≡ level
+    pub cofactor-asked : (cols : List (List ℕ)) → SourceNodes s cols → (level bit : ℕ) → bit < 2 → getD (getD cols 0 []) (x / 2) 0 ≡ level
         → getD (getD cols (1 + bit) []) (x / 2) 0 ≡ cofactor s level (eqb bit 1) x
     unfolding cofactor
     cofactor-asked cols held level bit a-bit asks =
@@ -56,7 +56,7 @@ module _ (s : Store Entry) (x : ℕ) (refers : Refers s (ref-of x)) where
         (held .low-at (x / 2) node-refers) (held .high-at (x / 2) node-refers) bit a-bit)
 
     -- it does not
-    pub cofactor-passed : (cols : List (List ℕ)) → NodesHeld s cols → (level : ℕ) (b : Bool) → (getD (getD cols 0 []) (x / 2) 0 ≡ level → ⊥)
+    pub cofactor-passed : (cols : List (List ℕ)) → SourceNodes s cols → (level : ℕ) (b : Bool) → (getD (getD cols 0 []) (x / 2) 0 ≡ level → ⊥)
         → x ≡ cofactor s level b x
     unfolding cofactor
     cofactor-passed cols held level b other =

@@ -7,7 +7,7 @@ use lib.ListN.{length, getD}
 use Rattle.algebra.specs.declared.Entry.{Entry}
 use Rattle.algebra.specs.Entry.{𝟘}
 use Rattle.diagrams.specs.Diagram.{Store, node-at, Both, From, ref-of}
-use Rattle.diagrams.proofs.Unique.{Closed}
+use Rattle.diagrams.specs.Reference.{Closed}
 use Rattle.transitions.specs.declared.State.{State}
 use Rattle.transitions.specs.Plan.{Plan}
 use Rattle.transitions.specs.Source.{Refers, Readable}

@@ -11,7 +11,7 @@ use Rattle.diagrams.specs.Diagram.{ref-of, Store, holding, rooted}
 use Rattle.uniques.specs.UniqueTable.{listed, nodes-in, NodesHeld, values-in, ValuesHeld}
 use Rattle.transitions.specs.declared.State.{State}
 use Rattle.transitions.specs.Plan.{Plan}
-use Rattle.transitions.specs.Source.{entry-in}
+use Rattle.transitions.specs.Source.{source-entry}
 use Rattle.transitions.specs.State.{made, inside}
 use Rattle.tables.specs.Table.{TableFits, AllRight}
 use Rattle.turns.specs.Progress.{OUT, Progress, building, full, out}
@@ -21,7 +21,7 @@ use Rattle.turns.specs.Progress.{OUT, Progress, building, full, out}
 -- the store that the source's columns hold: as many nodes and values as the plan says
 abbrev pub source-in : List ℕ → List (List ℕ) → List (List ℤ) → Store Entry
 source-in plan cols vals =
-    holding (nodes-in (getD plan 30 0) (getD cols 0 []) (getD cols 1 []) (getD cols 2 [])) (listed (getD plan 31 0) (entry-in vals))
+    holding (nodes-in (getD plan 30 0) (getD cols 0 []) (getD cols 1 []) (getD cols 2 [])) (listed (getD plan 31 0) (source-entry vals))
 
 -- ---- the destination
 
