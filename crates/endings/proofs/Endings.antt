@@ -7,8 +7,7 @@ use Rattle.stores.specs.Columns.{Columns}
 use Rattle.miters.specs.declared.Verdict.{Verdict}
 use Rattle.miters.specs.Report.{verdict}
 use Rattle.miters.specs.Miter.{steps}
-use Rattle.searches.specs.Slots.{store-in}
-use Rattle.searches.specs.Search.{given}
+use Rattle.cofactors.specs.Slots.{store-in, given}
 use Rattle.searches.specs.Ready.{Searchable}
 use Rattle.plans.specs.declared.Used.{Used}
 use Rattle.runs.specs.declared.End.{End}

@@ -4,8 +4,7 @@ use Rattle.diagrams.specs.Diagram.{node}
 use Rattle.stores.specs.Columns.{Columns}
 use Rattle.miters.specs.declared.Report.{Report}
 use Rattle.miters.specs.Report.{verdict, refused}
-use Rattle.searches.specs.Slots.{store-in}
-use Rattle.searches.specs.Search.{given}
+use Rattle.cofactors.specs.Slots.{store-in, given}
 use Rattle.searches.specs.Ready.{Searchable}
 use Rattle.plans.specs.declared.Used.{Used}
 use Rattle.runs.specs.declared.End.{End}

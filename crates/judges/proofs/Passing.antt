@@ -24,9 +24,8 @@ use Rattle.choices.specs.declared.Offsets.{Offsets}
 use Rattle.runs.specs.Running.{Task}
 use Rattle.checks.specs.declared.Lengths.{Lengths}
 use Rattle.checks.specs.declared.Checked.the-variants.{Refused, Pair}
-use Rattle.checks.specs.Checks.{lengths, Checks, refuses, passes, checks}
+use Rattle.checks.specs.Checks.{lengths, Checks, refuses, passes, checks, checked}
 use Rattle.judges.specs.Answer.{lent, answer-by, answer}
-use Rattle.checks.specs.Checks.{checked}
 use Rattle.judges.specs.Calls.{Passed, AtMost, leaving}
 use Rattle.checks.specs.Table.{Checking, all-hold}
 use Rattle.checks.proofs.Checks.{checks-checking}

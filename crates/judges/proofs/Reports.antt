@@ -14,7 +14,7 @@ use Rattle.miters.specs.declared.Report.{Report}
 use Rattle.miters.specs.Report.{verdict, finished}
 use Rattle.miters.specs.Miter.{steps}
 use Rattle.miters.specs.Run.{Lent, Ended, ended, outcome}
-use Rattle.searches.specs.Slots.{store-in}
+use Rattle.cofactors.specs.Slots.{store-in}
 use Rattle.searches.proofs.Held.{store-held, diagram-searchable, diagram-verdict}
 use Rattle.plans.specs.declared.Used.{Used}
 use Rattle.plans.specs.declared.Sizes.{Sizes}

@@ -6,8 +6,8 @@ use mathlib.Core.List.{List}
 use Prim.Native.Nat.{ℕ, zero, suc, _-_, _≤_}
 use native.Mathlib.Omega.{arith}
 use lib.ListN.{replicate}
-use Rattle.searches.specs.Slots.{cofactor, landing}
-use Rattle.searches.specs.Ready.{InNodes, Descends}
+use Rattle.cofactors.specs.Slots.{cofactor, landing, InNodes}
+use Rattle.searches.specs.Ready.{Descends}
 
 module _ (level low high : List ℕ) where
   abbrev lowest-from : ℕ → ℕ → ℕ → ℕ

@@ -14,10 +14,10 @@ use Rattle.diagrams.specs.Diagram.{node, place}
 use Rattle.stores.specs.Columns.{Columns, ValueColumns}
 use Rattle.diagrams.proofs.Places.{length-place}
 use Rattle.miters.specs.Report.{number}
-use Rattle.searches.specs.Slots.{store-in, value-at, cofactor, landing, bits}
-use Rattle.searches.specs.Search.{given}
-use Rattle.searches.specs.Ready.{InNodes, Used, Searchable}
-use Rattle.searches.proofs.Slots.{nodes-there, used-down}
+use Rattle.cofactors.specs.Slots.{store-in, value-at, cofactor, landing, bits, given, InNodes}
+use Rattle.places.specs.Ready.{Used}
+use Rattle.searches.specs.Ready.{Searchable}
+use Rattle.places.proofs.Slots.{nodes-there, used-down}
 use Rattle.searches.proofs.Starts.{task, plain, root-used, Landing, root-lands, slot-there}
 
 -- ---- bits

@@ -18,8 +18,7 @@ use Rattle.uniques.proofs.Chains.{length-listed}
 use Rattle.stores.proofs.Stores.{listed-all}
 use Rattle.diagrams.proofs.Diagrams.{diagram-reduced, diagram-gives}
 use Rattle.miters.specs.Report.{verdict}
-use Rattle.searches.specs.Slots.{store-in, value-at}
-use Rattle.searches.specs.Search.{given}
+use Rattle.cofactors.specs.Slots.{store-in, value-at, given}
 use Rattle.searches.specs.Ready.{Searchable}
 use Rattle.searches.proofs.Verdicts.{verdict-ext}
 

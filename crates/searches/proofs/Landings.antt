@@ -18,8 +18,8 @@ use Rattle.diagrams.proofs.Tests.{entry-decides, false-apart}
 use Rattle.diagrams.proofs.Keeping.{Kept, found, fresh, kept}
 use Rattle.diagrams.specs.Reference.{Seen, Closed}
 use Rattle.uniques.proofs.Chains.{length-listed, getD-listed}
-use Rattle.searches.specs.Slots.{store-in, value-at, cofactor, landing}
-use Rattle.searches.specs.Ready.{Used}
+use Rattle.cofactors.specs.Slots.{store-in, value-at, cofactor, landing}
+use Rattle.places.specs.Ready.{Used}
 
 -- ---- references
 

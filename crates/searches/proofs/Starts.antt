@@ -18,13 +18,14 @@ use Rattle.diagrams.specs.Reference.{Seen}
 use Rattle.miters.specs.declared.Verdict.the-variants.{Equal, Different}
 use Rattle.miters.specs.Miter.{corner}
 use Rattle.miters.specs.Report.{verdict}
-use Rattle.searches.specs.declared.Found.{Found}
-use Rattle.searches.specs.declared.Found.the-variants.{Nowhere, At}
-use Rattle.searches.specs.declared.Task.{Task}
-use Rattle.searches.specs.Slots.{store-in, value-at, cofactor, landing}
-use Rattle.searches.specs.Search.{given, sought, row-sought}
-use Rattle.searches.specs.Ready.{Used, Descends, Searchable, Sound, Row-ready}
-use Rattle.searches.proofs.Slots.{nodes-there, used-down}
+use Rattle.places.specs.declared.Found.{Found}
+use Rattle.places.specs.declared.Found.the-variants.{Nowhere, At}
+use Rattle.places.specs.declared.Task.{Task}
+use Rattle.cofactors.specs.Slots.{store-in, value-at, cofactor, landing, given}
+use Rattle.places.specs.Search.{sought, row-sought}
+use Rattle.places.specs.Ready.{Used, Sound, Row-ready}
+use Rattle.searches.specs.Ready.{Descends, Searchable}
+use Rattle.places.proofs.Slots.{nodes-there, used-down}
 use Rattle.searches.proofs.Landings.{ref-node, Lands, landed, children-used, zero-value, value-test, zero-test}
 use Rattle.searches.proofs.Verdicts.{place-corner, answered, Tells, sought-verdict, sought-lands}
 

@@ -19,11 +19,11 @@ use Rattle.miters.specs.declared.Verdict.the-variants.{Equal, Different}
 use Rattle.miters.specs.Miter.{corner}
 use Rattle.miters.specs.Report.{number, forbids, lowest, verdict-by, verdict}
 use Rattle.miters.proofs.Verdicts.{Searched, nowhere, least, lowest-searched}
-use Rattle.searches.specs.declared.Found.{Found}
-use Rattle.searches.specs.declared.Found.the-variants.{Nowhere, At}
-use Rattle.searches.specs.declared.Task.{Task}
-use Rattle.searches.specs.Search.{onward, forbids-from, found-from, sought}
-use Rattle.searches.proofs.Blocks.{lowest-ext, onward-eqb}
+use Rattle.places.specs.declared.Found.{Found}
+use Rattle.places.specs.declared.Found.the-variants.{Nowhere, At}
+use Rattle.places.specs.declared.Task.{Task}
+use Rattle.places.specs.Search.{onward, forbids-from, found-from, sought}
+use Rattle.places.proofs.Blocks.{lowest-ext, onward-eqb}
 
 -- two answers that agree on none and on all bits of the right length agree on the lowest
 at-lowest : {A : Type 0} (k : ℕ) (test : Bits → Bool) (f g : Option Bits → A) → f none ≡ g none

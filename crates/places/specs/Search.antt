@@ -5,19 +5,13 @@ use mathlib.Core.List.{List, [], _∷_}
 use mathlib.Core.Option.{Option, none, some}
 use Prim.Native.Nat.{ℕ, _+_, _*_, _-_}
 use lib.Dec.{eqb}
-use Rattle.algebra.specs.declared.Entry.{Entry}
-use Rattle.algebra.specs.Entry.{𝟘}
-use Rattle.algebra.specs.Matrix.{Bits, Matrix}
-use Rattle.diagrams.specs.Diagram.{Ref, Store, reached, place, rows, columns}
+use Rattle.algebra.specs.Matrix.{Bits}
+use Rattle.diagrams.specs.Diagram.{rows, columns}
 use Rattle.miters.specs.Report.{lowest}
-use Rattle.searches.specs.declared.Found.{Found}
-use Rattle.searches.specs.declared.Found.the-variants.{Nowhere, At}
-use Rattle.searches.specs.declared.Task.{Task}
-use Rattle.searches.specs.Slots.{cofactor, landing}
-
--- "A diagram gives, for a row and a column, the value reached from its root"
-abbrev pub given : Store Entry → Ref → Matrix
-given s root r c = reached 𝟘 s 0 root (place r c)
+use Rattle.places.specs.declared.Found.{Found}
+use Rattle.places.specs.declared.Found.the-variants.{Nowhere, At}
+use Rattle.places.specs.declared.Task.{Task}
+use Rattle.cofactors.specs.Slots.{cofactor, landing}
 
 -- ---- what is found from a place on
 

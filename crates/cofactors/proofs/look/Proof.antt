@@ -1,10 +1,10 @@
--- `searches::look` meets its contract: a value, a node of another level, a node of the level asked for.
+-- `cofactors::look` meets its contract: a value, a node of another level, a node of the level asked for.
 -- Assumes nothing.
 use borrow.Author.Needs.{needs}
 use native.Mathlib.Omega.{arith}
-use Rattle.searches.proofs.Slots.{sides-value, sides-past, sides-down}
-use Rattle.searches.proofs.look.Statement.{statement}
-use Rattle.searches.proofs.look.Tie as tie
+use Rattle.cofactors.proofs.Children.{sides-value, sides-past, sides-down}
+use Rattle.cofactors.proofs.look.Statement.{statement}
+use Rattle.cofactors.proofs.look.Tie as tie
 
 returns : tie.Need-returns
 returns c = let at = c .before .args in sides-value (at .level .now) (at .low .now) (at .high .now) (at .asked) (at .r) (c .if1 .taken)

@@ -1,24 +1,24 @@
--- `searches::ask_row` and `searches::ask_column` meet their contracts: each need is an answer of one turn (proofs/Turns.antt).
+-- `places::ask_row` and `places::ask_column` meet their contracts: each need is an answer of one turn (proofs/Turns.antt).
 -- The measure of both is the number of levels left. Assumes nothing.
 use Prim.Native.Nat.{ℕ, _<_}
 use native.Mathlib.Omega.{arith}
 use borrow.Author.Needs.{needs}
 use borrow.Fn.Kinds.{In}
 use borrow.Fn.PlainCycle.{Measures, is, falls, and}
-use Rattle.searches.proofs.Slots.{nodes-there}
-use Rattle.searches.proofs.Turns.{low-fits, high-fits, level-fits}
-use Rattle.searches.proofs.Turns.{column-some, low-row-asked, high-row-asked, column-first, column-clean, column-second}
-use Rattle.searches.proofs.Turns.{row-settled, row-ended, low-used, low-column-asked, high-column-asked, row-first, row-second}
-use Rattle.searches.proofs.ask_column.Reads as column
-use Rattle.searches.proofs.ask_column.Kinds as column-kinds
-use Rattle.searches.proofs.+ask_column+ask_row.Lts-ask_column as column-lts
-use Rattle.searches.proofs.ask_row.Reads as row
-use Rattle.searches.proofs.ask_row.Kinds as row-kinds
-use Rattle.searches.proofs.+ask_column+ask_row.Lts-ask_row as row-lts
-use Rattle.searches.proofs.look.Reads as look
-use Rattle.searches.proofs.settled.Reads as settled
-use Rattle.searches.proofs.+ask_column+ask_row.{statement}
-use Rattle.searches.proofs.+ask_column+ask_row.Tie.{close}
+use Rattle.places.proofs.Slots.{nodes-there}
+use Rattle.places.proofs.Turns.{low-fits, high-fits, level-fits}
+use Rattle.places.proofs.Turns.{column-some, low-row-asked, high-row-asked, column-first, column-clean, column-second}
+use Rattle.places.proofs.Turns.{row-settled, row-ended, low-used, low-column-asked, high-column-asked, row-first, row-second}
+use Rattle.places.proofs.ask_column.Reads as column
+use Rattle.places.proofs.ask_column.Kinds as column-kinds
+use Rattle.places.proofs.+ask_column+ask_row.Lts-ask_column as column-lts
+use Rattle.places.proofs.ask_row.Reads as row
+use Rattle.places.proofs.ask_row.Kinds as row-kinds
+use Rattle.places.proofs.+ask_column+ask_row.Lts-ask_row as row-lts
+use Rattle.cofactors.proofs.look.Reads as look
+use Rattle.places.proofs.settled.Reads as settled
+use Rattle.places.proofs.+ask_column+ask_row.{statement}
+use Rattle.places.proofs.+ask_column+ask_row.Tie.{close}
 
 abbrev μ-column : Measures 3 column-kinds.ps ℕ
 μ-column κs a = a .1 .1 .1 .1 .0

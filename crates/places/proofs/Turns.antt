@@ -14,14 +14,14 @@ use borrow.Author.Tests.{eqb-true, eq-eqb}
 use Rattle.algebra.specs.Matrix.{Bits}
 use Rattle.diagrams.specs.Diagram.{levels}
 use Rattle.uniques.specs.UniqueTable.{full}
-use Rattle.searches.specs.declared.Found.{Found}
-use Rattle.searches.specs.declared.Found.the-variants.{Nowhere, At}
-use Rattle.searches.specs.declared.Task.{Task}
-use Rattle.searches.specs.Slots.{cofactor, landing}
-use Rattle.searches.specs.Search.{sought, behind, child, row-sought, column-sought, is-settled}
-use Rattle.searches.specs.Ready.{Used, Room, Sound, Row-ready, Column-ready}
-use Rattle.searches.proofs.Blocks.{eqb-iff, first-of, Ends, sought-cons, first-nowhere, nowhere-again, zero-nowhere, sought-end}
-use Rattle.searches.proofs.Slots.{landing-value, used-down, full-unused}
+use Rattle.places.specs.declared.Found.{Found}
+use Rattle.places.specs.declared.Found.the-variants.{Nowhere, At}
+use Rattle.places.specs.declared.Task.{Task}
+use Rattle.cofactors.specs.Slots.{cofactor, landing}
+use Rattle.places.specs.Search.{sought, behind, child, row-sought, column-sought, is-settled}
+use Rattle.places.specs.Ready.{Used, Room, Sound, Row-ready, Column-ready}
+use Rattle.places.proofs.Blocks.{eqb-iff, first-of, Ends, sought-cons, first-nowhere, nowhere-again, zero-nowhere, sought-end}
+use Rattle.places.proofs.Slots.{landing-value, used-down, full-unused}
 
 -- ---- room
 

@@ -1,8 +1,8 @@
--- `searches::settled` meets its contract, test by test.
+-- `places::settled` meets its contract, test by test.
 -- Assumes nothing.
 use borrow.Author.Tests.{eq-eqb, ne-eqb}
-use Rattle.searches.proofs.settled.Statement.{statement}
-use Rattle.searches.proofs.settled.Tie as tie
+use Rattle.places.proofs.settled.Statement.{statement}
+use Rattle.places.proofs.settled.Tie as tie
 
 returns : tie.Need-returns
 returns c = rw (ne-eqb _ _ (c .before .if1 .taken))

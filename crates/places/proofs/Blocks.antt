@@ -13,10 +13,10 @@ use Rattle.algebra.specs.Matrix.{Bits, same}
 use Rattle.diagrams.specs.Diagram.{levels, rows, columns}
 use Rattle.diagrams.proofs.Places.{length-halves}
 use Rattle.miters.specs.Report.{lower, lowest}
-use Rattle.searches.specs.declared.Found.{Found}
-use Rattle.searches.specs.declared.Found.the-variants.{Nowhere, At}
-use Rattle.searches.specs.declared.Task.{Task}
-use Rattle.searches.specs.Search.{onward, forbids-from, found-from, sought}
+use Rattle.places.specs.declared.Found.{Found}
+use Rattle.places.specs.declared.Found.the-variants.{Nowhere, At}
+use Rattle.places.specs.declared.Task.{Task}
+use Rattle.places.specs.Search.{onward, forbids-from, found-from, sought}
 
 -- ---- the lowest bits that pass a test
 

@@ -1,12 +1,14 @@
--- The store in the first slots of lent columns, and the way down in it. Definitions only; their laws are in proofs/Slots.antt.
+-- The store in the first slots of lent columns, and the way down in it. Definitions only; their laws are in proofs/Children.antt and in places.
+use mathlib.Core.Path.{_≡_}
 use mathlib.Core.Bool.{Bool, cond}
 use mathlib.Core.List.{List, [], _∷_}
-use Prim.Native.Nat.{ℕ, zero, suc, _/_, _%_, _^_}
+use Prim.Native.Nat.{ℕ, zero, suc, _/_, _%_, _^_, _<_}
 use lib.Dec.{eqb}
-use lib.ListN.{getD}
+use lib.ListN.{length, getD}
 use Rattle.algebra.specs.declared.Entry.{Entry}
-use Rattle.algebra.specs.Matrix.{Bits}
-use Rattle.diagrams.specs.Diagram.{Store, holding}
+use Rattle.algebra.specs.Entry.{𝟘}
+use Rattle.algebra.specs.Matrix.{Bits, Matrix}
+use Rattle.diagrams.specs.Diagram.{Ref, Store, holding, reached, place}
 use Rattle.stores.specs.Columns.{Columns, entry-of, entries-of}
 use Rattle.uniques.specs.UniqueTable.{nodes-in}
 
@@ -17,6 +19,16 @@ store-in nodes values cols =
 
 abbrev pub value-at : Columns → ℕ → Entry
 value-at cols j = entry-of (cols .a) (cols .b) (cols .c) (cols .d) j
+
+-- "A diagram gives, for a row and a column, the value reached from its root"
+abbrev pub given : Store Entry → Ref → Matrix
+given s root r c = reached 𝟘 s 0 root (place r c)
+
+-- where r is a node, the columns have its slot
+pub record InNodes (level low high : List ℕ) (r : ℕ) : Type 0 where
+  pub in-level : r % 2 ≡ 1 → r / 2 < length level
+  pub in-low : r % 2 ≡ 1 → r / 2 < length low
+  pub in-high : r % 2 ≡ 1 → r / 2 < length high
 
 -- "going low where the bit asked for is 0 and high where it is 1"; a reference that does not ask for the level stays
 abbrev pub cofactor : List ℕ → List ℕ → List ℕ → ℕ → Bool → ℕ → ℕ

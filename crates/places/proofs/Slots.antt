@@ -1,4 +1,4 @@
--- One step down in the columns, and the way down from a reference.
+-- The way down from a reference, and references that are used.
 -- Assumes nothing.
 use mathlib.Core.Path.{_≡_, refl, _∙_, ap, subst}
 use mathlib.Core.Bool.{Bool, true, false, cond}
@@ -7,35 +7,14 @@ use Prim.Native.Nat.{ℕ, suc, _/_, _%_, _<_, _≤_}
 use native.Mathlib.Omega.{arith}
 use lib.ListN.{getD}
 use lib.Dec.{eqb}
-use borrow.Author.Tests.{eqb-true, eq-eqb, ne-eqb}
+use borrow.Author.Tests.{eqb-true, ne-eqb}
 use Rattle.algebra.specs.Matrix.{Bits}
 use Rattle.uniques.specs.UniqueTable.{full}
-use Rattle.searches.specs.declared.Task.{Task}
-use Rattle.searches.specs.Slots.{cofactor, landing}
-use Rattle.searches.specs.Ready.{InNodes, Used, Sound}
+use Rattle.places.specs.declared.Task.{Task}
+use Rattle.cofactors.specs.Slots.{cofactor, landing, InNodes}
+use Rattle.places.specs.Ready.{Used, Sound}
 
 module _ (level low high : List ℕ) where
-  -- ---- both children by one test
-
-  module _ (asked r : ℕ) where
-    abbrev Sides : ℕ → ℕ → Type 0
-    Sides x y = (x ≡ cofactor level low high asked false r) × (y ≡ cofactor level low high asked true r)
-
-    pub sides-value : r % 2 ≡ 0 → Sides r r
-    sides-value even = let test = ne-eqb (r % 2) 1 (λ e. omega arith) in (rw test, rw test)
-
-    pub sides-past : (r % 2 ≡ 0 → ⊥) → (getD level (r / 2) 0 ≡ asked → ⊥) → Sides r r
-    sides-past odd other =
-        let test = eq-eqb (r % 2) 1 (omega arith) in
-        let at-level = ne-eqb (getD level (r / 2) 0) asked other in
-        (rw (test, at-level), rw (test, at-level))
-
-    pub sides-down : (r % 2 ≡ 0 → ⊥) → getD level (r / 2) 0 ≡ asked → Sides (getD low (r / 2) 0) (getD high (r / 2) 0)
-    sides-down odd same =
-        let test = eq-eqb (r % 2) 1 (omega arith) in
-        let at-level = eq-eqb (getD level (r / 2) 0) asked same in
-        (rw (test, at-level), rw (test, at-level))
-
   -- ---- values
 
   cofactor-value : (asked : ℕ) (b : Bool) (r : ℕ) → (r % 2 ≡ 1 → ⊥) → cofactor level low high asked b r ≡ r
