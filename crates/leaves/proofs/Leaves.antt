@@ -70,7 +70,8 @@ value-half x is-one = by-test (eqb (x % 2) 0) refl
     by-test true e = ref-of-even x (even (eqb-true _ _ e))
     by-test false e = absurd (true≢false (sym is-one ∙ value-false x (eqb-false _ _ e)))
 
-module _ (s : Store Entry) (vals : List (List ℤ)) (x : ℕ) (held : SourceValues s vals) (refers : Refers s (ref-of x)) (is-one : is-value (ref-of x) ≡ true) where
+module _ (s : Store Entry) (vals : List (List ℤ)) (x : ℕ) (held : SourceValues s vals) (refers : Refers s (ref-of x))
+    (is-one : is-value (ref-of x) ≡ true) where
   value-refers : x / 2 < length (s .values)
   value-refers = rw (value-half x is-one) at refers
 

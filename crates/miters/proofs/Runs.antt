@@ -76,7 +76,8 @@ module _ (lent : Lent) (n : ℕ) where
     abbrev next : Over
     next = stepped n s M
 
-    pass-cons : (k : ℕ) → in-width lent n (next .entries) ≡ true → has-room lent n (next .entries) ≡ true → Pass lent n next ss k → Pass lent n M (s ∷ ss) (suc k)
+    pass-cons : (k : ℕ) → in-width lent n (next .entries) ≡ true → has-room lent n (next .entries) ≡ true
+        → Pass lent n next ss k → Pass lent n M (s ∷ ss) (suc k)
     pass-cons k wide room pass zero h = (wide, room)
     pass-cons k wide room pass (suc i) h = pass i (omega arith)
 

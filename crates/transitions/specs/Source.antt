@@ -23,7 +23,8 @@ pub record SourceNodes (s : Store Entry) (cols : List (List ℕ)) : Type 0 where
 
 -- the four numbers in slot j
 abbrev pub source-entry : List (List ℤ) → ℕ → Entry
-source-entry vals j = entry (getD (getD vals 0 []) j (pos 0)) (getD (getD vals 1 []) j (pos 0)) (getD (getD vals 2 []) j (pos 0)) (getD (getD vals 3 []) j (pos 0))
+source-entry vals j =
+    entry (getD (getD vals 0 []) j (pos 0)) (getD (getD vals 1 []) j (pos 0)) (getD (getD vals 2 []) j (pos 0)) (getD (getD vals 3 []) j (pos 0))
 
 -- "four value columns (a, b, c, d; signed 32-bit)", of which the first slots hold the store's values
 pub record SourceValues (s : Store Entry) (vals : List (List ℤ)) : Type 0 where
