@@ -1,5 +1,5 @@
 -- The search for the lowest place that forbids equality, from a place of the diagram on. Definitions only; that it comes to the
--- verdict is in proofs/Verdicts.antt.
+-- verdict is in searches/proofs/Verdicts.antt.
 use mathlib.Core.Bool.{Bool, false, cond, not}
 use mathlib.Core.List.{List, [], _∷_}
 use mathlib.Core.Option.{Option, none, some}
