@@ -14,6 +14,13 @@ ghost use Rattle.judges.specs.Calls.{Passed, AtMost, leaving};
 // The slots kept of the second store.
 const NOTHING: usize = 0;
 
+// The sizes of scratch, and the most nodes and values of a store that the small one serves.
+const SMALL: u32 = 0;
+
+const LARGE: u32 = 1;
+
+const SMALL_STORE: usize = 4096;
+
 // The run of a pair that passed the checks, in scratch that has room for it; the second store and what the first does not keep become 0.
 fn judge_in(
     u: &[u8],
@@ -254,6 +261,118 @@ fn judge_large(
     )
 }
 
+// The run in scratch of the smallest size that has room, tried from `size` on. The compiler gives a function that calls itself no
+// large arrays of its callees: so each size keeps a frame of its own, and the call itself needs neither.
+fn judge_sized(
+    size: u32,
+    u: &[u8],
+    v: &[u8],
+    schedule: &[u8],
+    n: u32,
+    offsets: Offsets,
+    width: u32,
+    level: &mut [u32],
+    low: &mut [u32],
+    high: &mut [u32],
+    a: &mut [i32],
+    b: &mut [i32],
+    c: &mut [i32],
+    d: &mut [i32],
+    other_level: &mut [u32],
+    other_low: &mut [u32],
+    other_high: &mut [u32],
+    other_a: &mut [i32],
+    other_b: &mut [i32],
+    other_c: &mut [i32],
+    other_d: &mut [i32],
+) -> Report
+    requires { ⌜ Passed (now u) (now v) (now schedule) width
+        (columns (now level) (now low) (now high) (now a) (now b) (now c) (now d))
+        (columns (now «other_level») (now «other_low») (now «other_high») (now «other_a») (now «other_b») (now «other_c») (now «other_d»)) n offsets ⌝ }
+    ensures { λ r. ⌜ leaving r
+        (columns (now (level .exit)) (now (low .exit)) (now (high .exit)) (now (a .exit)) (now (b .exit)) (now (c .exit)) (now (d .exit)))
+        (columns (now («other_level» .exit)) (now («other_low» .exit)) (now («other_high» .exit))
+        (now («other_a» .exit)) (now («other_b» .exit)) (now («other_c» .exit)) (now («other_d» .exit)))
+        ≡ answer (now (u .entry)) (now (v .entry)) (now (schedule .entry)) width
+        (columns (now (level .entry)) (now (low .entry)) (now (high .entry)) (now (a .entry)) (now (b .entry)) (now (c .entry)) (now (d .entry)))
+        (columns (now («other_level» .entry)) (now («other_low» .entry)) (now («other_high» .entry))
+        (now («other_a» .entry)) (now («other_b» .entry)) (now («other_c» .entry)) (now («other_d» .entry))) ⌝ }
+{
+    if size == SMALL {
+        if level.len() <= SMALL_STORE {
+            if a.len() <= SMALL_STORE {
+                return judge_small(
+                    u,
+                    v,
+                    schedule,
+                    n,
+                    offsets,
+                    width,
+                    level,
+                    low,
+                    high,
+                    a,
+                    b,
+                    c,
+                    d,
+                    other_level,
+                    other_low,
+                    other_high,
+                    other_a,
+                    other_b,
+                    other_c,
+                    other_d,
+                );
+            }
+        }
+        return judge_sized(
+            LARGE,
+            u,
+            v,
+            schedule,
+            n,
+            offsets,
+            width,
+            level,
+            low,
+            high,
+            a,
+            b,
+            c,
+            d,
+            other_level,
+            other_low,
+            other_high,
+            other_a,
+            other_b,
+            other_c,
+            other_d,
+        );
+    }
+    judge_large(
+        u,
+        v,
+        schedule,
+        n,
+        offsets,
+        width,
+        level,
+        low,
+        high,
+        a,
+        b,
+        c,
+        d,
+        other_level,
+        other_low,
+        other_high,
+        other_a,
+        other_b,
+        other_c,
+        other_d,
+    )
+}
+
 // The verdict on list u against list v along a schedule, in numbers of the width w, in two lent stores.
 pub fn judge(
     u: &[u8],
@@ -305,33 +424,8 @@ pub fn judge(
     match checks::check(u, v, schedule, w, first, second) {
         Checked::Refused(why) => endings::refused(why),
         Checked::Pair { n, offsets } => {
-            if first.level <= 4096 {
-                if first.a <= 4096 {
-                    return judge_small(
-                        u,
-                        v,
-                        schedule,
-                        n,
-                        offsets,
-                        w,
-                        level,
-                        low,
-                        high,
-                        a,
-                        b,
-                        c,
-                        d,
-                        other_level,
-                        other_low,
-                        other_high,
-                        other_a,
-                        other_b,
-                        other_c,
-                        other_d,
-                    );
-                }
-            }
-            judge_large(
+            judge_sized(
+                SMALL,
                 u,
                 v,
                 schedule,

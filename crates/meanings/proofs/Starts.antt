@@ -183,14 +183,14 @@ zero-found s k z is-k zero-there = ((λ j below here. ap (λ (m : ℕ). getD (s 
     odd : (i : ℕ) → 2 * i + 1 ≡ z → ⊥
     odd i here = omega arith
 
--- 4294967295, where no value is 0
-pub zero-absent : (s : Store Entry) → length (s .nodes) ≤ 65536 → IsZero s 4294967295
+-- 4294967293, where no value is 0
+pub zero-absent : (s : Store Entry) → length (s .nodes) ≤ 65536 → IsZero s 4294967293
 zero-absent s few = ((λ j below here. absurd (even j here)), (λ i below here. past i below here))
   where
-    even : (j : ℕ) → 2 * j ≡ 4294967295 → ⊥
+    even : (j : ℕ) → 2 * j ≡ 4294967293 → ⊥
     even j here = omega arith
 
-    past : (i : ℕ) → i < length (s .nodes) → 2 * i + 1 ≡ 4294967295 → ⊥
+    past : (i : ℕ) → i < length (s .nodes) → 2 * i + 1 ≡ 4294967293 → ⊥
     past i below here = omega arith
 
 -- ---- the store of a diagram is a source of any plan for a gate

@@ -31,7 +31,7 @@ pub fn multiply(
         (now («node_index» .exit)) (now («value_index» .exit)) (now (memo .exit)) (now (tally .exit))) r ⌝ }
 {
     let at = tables::slot(plan, root, root, WAITING);
-    walks::hand_over(
+    walks::row(
         plan,
         at,
         root,

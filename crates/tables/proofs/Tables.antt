@@ -12,7 +12,7 @@ use lib.Seq.{getD-set-same, getD-set-other, lt-length-set}
 use borrow.Author.Tests.{ltb-true, ltb-false, eqb-true, eqb-false, lt-ltb, le-ltb, eq-eqb, ne-eqb}
 use Rattle.transitions.specs.declared.State.{State}
 use Rattle.transitions.specs.Plan.{Plan}
-use Rattle.tables.specs.Table.{slot-of, table-end, unsettled, told, entered, recalled-at, recalled, noted-at, noted, cleared}
+use Rattle.tables.specs.Table.{slot-of, table-end, unsettled, told, kept-as, entered, recalled-at, recalled, noted-at, noted, cleared}
 use Rattle.tables.specs.Table.{TableSizes, TableFits, InTable, AtSlot, AllRight}
 use Rattle.tables.proofs.Slots.{alone-same, entry-slot, entry-room, same-state}
 
@@ -118,27 +118,24 @@ recalled-by-own plan memo memo′ τ agree = by-side (side-of plan τ)
 abbrev written : List ℕ → ℕ → State → ℕ → List ℕ
 written memo at σ answer = set (set (set (set memo at (σ .x)) (at + 1) (σ .y)) (at + 2) (σ .mode + 1)) (at + 3) answer
 
--- the three ways of noting
+-- the two ways of noting
 data Noting (plan : Plan) (memo : List ℕ) (σ : State) (answer : ℕ) : Type 0 where
-  in-number : slot-of plan σ < 3 * plan .span → noted plan memo σ answer ≡ set memo (slot-of plan σ) (answer + 1) → Noting plan memo σ answer
-  left-out : noted plan memo σ answer ≡ memo → Noting plan memo σ answer
+  in-number : slot-of plan σ < 3 * plan .span → noted plan memo σ answer ≡ set memo (slot-of plan σ) (kept-as answer) → Noting plan memo σ answer
   in-entry : 3 * plan .span ≤ slot-of plan σ → noted plan memo σ answer ≡ written memo (slot-of plan σ) σ answer → Noting plan memo σ answer
 
 noted-by : (plan : Plan) (memo : List ℕ) (σ : State) (answer : ℕ) → Noting plan memo σ answer
 unfolding noted
-noted-by plan memo σ answer = by-tests (ltb (slot-of plan σ) (3 * plan .span)) (ltb answer 4294967295) refl refl
+noted-by plan memo σ answer = by-test (ltb (slot-of plan σ) (3 * plan .span)) refl
   where
-    by-tests : (p q : Bool) → ltb (slot-of plan σ) (3 * plan .span) ≡ p → ltb answer 4294967295 ≡ q → Noting plan memo σ answer
-    by-tests true true e f = in-number (ltb-true _ _ e) (rw (e, f))
-    by-tests true false e f = left-out (rw (e, f))
-    by-tests false q e f = in-entry (ltb-false _ _ e) (rw e)
+    by-test : (p : Bool) → ltb (slot-of plan σ) (3 * plan .span) ≡ p → Noting plan memo σ answer
+    by-test true e = in-number (ltb-true _ _ e) (rw e)
+    by-test false e = in-entry (ltb-false _ _ e) (rw e)
 
 pub length-noted : (plan : Plan) (memo : List ℕ) (σ : State) (answer : ℕ) → length (noted plan memo σ answer) ≡ length memo
 length-noted plan memo σ answer = by-way (noted-by plan memo σ answer)
   where
     by-way : Noting plan memo σ answer → length (noted plan memo σ answer) ≡ length memo
     by-way (in-number below is) = ap length is ∙ simp length-set
-    by-way (left-out is) = ap length is
     by-way (in-entry past is) = ap length is ∙ simp length-set
 
 -- at a state's slot, test by test
@@ -147,11 +144,11 @@ module _ {plan : Plan} {memo : List ℕ} {at : ℕ} {σ : State} (s : AtSlot pla
   unfolding noted
   noted-as = ap (λ (i : ℕ). noted-at plan memo i σ answer) (s .slot)
 
-  pub number-noted : at < 3 * plan .span → answer < 4294967295 → set memo at (answer + 1) ≡ noted plan memo σ answer
+  pub number-noted : at < 3 * plan .span → answer < unsettled → set memo at (answer + 1) ≡ noted plan memo σ answer
   number-noted below small = rw (← noted-as, lt-ltb _ _ below, lt-ltb _ _ small)
 
-  pub largest-left-out : at < 3 * plan .span → 4294967295 ≤ answer → memo ≡ noted plan memo σ answer
-  largest-left-out below large = rw (← noted-as, lt-ltb _ _ below, le-ltb _ _ large)
+  pub nothing-noted : at < 3 * plan .span → unsettled ≤ answer → set memo at 0 ≡ noted plan memo σ answer
+  nothing-noted below large = rw (← noted-as, lt-ltb _ _ below, le-ltb _ _ large)
 
   pub entry-noted : 3 * plan .span ≤ at → written memo at σ answer ≡ noted plan memo σ answer
   entry-noted past = rw (← noted-as, le-ltb _ _ past)
@@ -161,8 +158,7 @@ noted-other : (plan : Plan) (memo : List ℕ) (σ : State) (answer i : ℕ) → 
 noted-other plan memo σ answer i strange = by-way (noted-by plan memo σ answer)
   where
     by-way : Noting plan memo σ answer → getD (noted plan memo σ answer) i 0 ≡ getD memo i 0
-    by-way (in-number below is) = ap (λ (l : List ℕ). getD l i 0) is ∙ getD-set-other memo (slot-of plan σ) i (answer + 1) 0 (λ at. strange (number below at))
-    by-way (left-out is) = ap (λ (l : List ℕ). getD l i 0) is
+    by-way (in-number below is) = ap (λ (l : List ℕ). getD l i 0) is ∙ getD-set-other memo (slot-of plan σ) i (kept-as answer) 0 (λ at. strange (number below at))
     by-way (in-entry past is) =
         let off : (k : ℕ) → k < 4 → i ≢ slot-of plan σ + k = λ k lt at. strange (word past (omega arith) (omega arith)) in
         let p : i ≢ slot-of plan σ = λ at. strange (word past (omega arith) (omega arith)) in
@@ -204,8 +200,13 @@ pub data AfterNoting (plan : Plan) (memo : List ℕ) (σ : State) (answer : ℕ)
   kept : recalled plan (noted plan memo σ answer) τ ≡ recalled plan memo τ → AfterNoting plan memo σ answer τ
   fresh : τ ≡ σ → recalled plan (noted plan memo σ answer) τ ≡ answer → AfterNoting plan memo σ answer τ
 
-told-more : (answer : ℕ) → told (answer + 1) ≡ answer
-told-more answer = rw (ne-eqb (answer + 1) 0 (omega arith)) (omega arith)
+-- what a region tells of an answer kept there: nothing, or that answer
+told-kept : (answer : ℕ) → (told (kept-as answer) ≡ unsettled) ⊎ (told (kept-as answer) ≡ answer)
+told-kept answer = by-test (ltb answer unsettled) refl
+  where
+    by-test : (b : Bool) → ltb answer unsettled ≡ b → (told (kept-as answer) ≡ unsettled) ⊎ (told (kept-as answer) ≡ answer)
+    by-test true e = inr (rw (e, ne-eqb (answer + 1) 0 (omega arith)) (omega arith))
+    by-test false e = inl (rw e)
 
 module _ (plan : Plan) (memo : List ℕ) (σ τ : State) (answer : ℕ) (fits : TableFits plan memo) (in-σ : InTable plan σ) (in-τ : InTable plan τ) where
   recalled-apart : slot-of plan τ ≢ slot-of plan σ → recalled plan (noted plan memo σ answer) τ ≡ recalled plan memo τ
@@ -213,18 +214,17 @@ module _ (plan : Plan) (memo : List ℕ) (σ τ : State) (answer : ℕ) (fits : 
       recalled-by-own plan (noted plan memo σ answer) memo τ
       (λ i own. noted-other plan memo σ answer i (λ own-σ. owns-apart plan σ τ i in-σ in-τ apart own-σ own))
 
-  number-recalled : slot-of plan τ ≡ slot-of plan σ → slot-of plan σ < 3 * plan .span → recalled plan (set memo (slot-of plan σ) (answer + 1)) τ ≡ answer
+  number-recalled : slot-of plan τ ≡ slot-of plan σ → slot-of plan σ < 3 * plan .span →
+      recalled plan (set memo (slot-of plan σ) (kept-as answer)) τ ≡ told (kept-as answer)
   number-recalled same below =
-      let after = set memo (slot-of plan σ) (answer + 1) in
+      let after = set memo (slot-of plan σ) (kept-as answer) in
       recalled plan after τ
       ≡⟨ recalled-number plan after τ (rw same below) ⟩
       told (getD after (slot-of plan τ) 0)
       ≡⟨ ap (λ (i : ℕ). told (getD after i 0)) same ⟩
       told (getD after (slot-of plan σ) 0)
-      ≡⟨ ap told (getD-set-same memo (slot-of plan σ) (answer + 1) 0 (omega (arith, fits .room))) ⟩
-      told (answer + 1)
-      ≡⟨ told-more answer ⟩
-      answer ∎
+      ≡⟨ ap told (getD-set-same memo (slot-of plan σ) (kept-as answer) 0 (omega (arith, fits .room))) ⟩
+      told (kept-as answer) ∎
 
   entry-recalled : slot-of plan τ ≡ slot-of plan σ → 3 * plan .span ≤ slot-of plan σ →
       recalled plan (written memo (slot-of plan σ) σ answer) τ ≡
@@ -236,9 +236,14 @@ module _ (plan : Plan) (memo : List ℕ) (σ τ : State) (answer : ℕ) (fits : 
       rw (same, written-x memo at σ answer room, written-y memo at σ answer room, written-mode memo at σ answer room, written-answer memo at σ answer room)
 
   recalled-same : slot-of plan τ ≡ slot-of plan σ → Noting plan memo σ answer → AfterNoting plan memo σ answer τ
-  recalled-same same (in-number below is) =
-      fresh (alone-same plan σ τ (fits .sizes) in-σ in-τ below same) (ap (λ (l : List ℕ). recalled plan l τ) is ∙ number-recalled same below)
-  recalled-same same (left-out is) = kept (ap (λ (l : List ℕ). recalled plan l τ) is)
+  recalled-same same (in-number below is) = by-told (told-kept answer)
+    where
+      now-told : recalled plan (noted plan memo σ answer) τ ≡ told (kept-as answer)
+      now-told = ap (λ (l : List ℕ). recalled plan l τ) is ∙ number-recalled same below
+
+      by-told : (told (kept-as answer) ≡ unsettled) ⊎ (told (kept-as answer) ≡ answer) → AfterNoting plan memo σ answer τ
+      by-told (inl none) = lost (now-told ∙ none)
+      by-told (inr some) = fresh (alone-same plan σ τ (fits .sizes) in-σ in-τ below same) (now-told ∙ some)
   recalled-same same (in-entry past is) = by-tests (eqb (σ .mode + 1) (τ .mode + 1)) (eqb (σ .x) (τ .x)) (eqb (σ .y) (τ .y)) refl refl refl
     where
       now-is : recalled plan (noted plan memo σ answer) τ ≡ cond (eqb (σ .mode + 1) (τ .mode + 1) && (eqb (σ .x) (τ .x) && eqb (σ .y) (τ .y))) answer unsettled

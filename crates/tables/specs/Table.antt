@@ -34,11 +34,14 @@ table-end plan = 3 * plan .span + 4 * plan .slots
 
 -- what says that nothing is known
 abbrev pub unsettled : ℕ
-unsettled = 4294967293
+unsettled = 4294967295
 
 -- a number of a region is 0, or the answer and one more
 abbrev pub told : ℕ → ℕ
 told n = cond (eqb n 0) unsettled (n - 1)
+
+abbrev pub kept-as : ℕ → ℕ
+kept-as answer = cond (ltb answer unsettled) (answer + 1) 0
 
 -- an entry is x, y, the mode and one more, so that a cleared entry is no state's, and the answer
 abbrev pub entered : List ℕ → ℕ → State → Bool
@@ -51,11 +54,10 @@ recalled-at plan memo at σ =
 unfoldable pub recalled : Plan → List ℕ → State → ℕ
 recalled plan memo σ = recalled-at plan memo (slot-of plan σ) σ
 
--- a region has no room for the largest number and one more, so that answer is not kept there
 abbrev pub noted-at : Plan → List ℕ → ℕ → State → ℕ → List ℕ
 noted-at plan memo at σ answer =
     cond (ltb at (3 * plan .span))
-    (cond (ltb answer 4294967295) (set memo at (answer + 1)) memo)
+    (set memo at (kept-as answer))
     (set (set (set (set memo at (σ .x)) (at + 1) (σ .y)) (at + 2) (σ .mode + 1)) (at + 3) answer)
 
 unfoldable pub noted : Plan → List ℕ → State → ℕ → List ℕ

@@ -10,11 +10,8 @@ ghost use Rattle.transitions.specs.Plan.{plan-of};
 ghost use Rattle.transitions.specs.Next.{numbered};
 ghost use Rattle.tables.specs.Table.{slot-of, recalled, noted, TableSizes, AtSlot, table-size, cleared};
 
-// Nothing is known.
-pub const UNSETTLED: u32 = 4294967293;
-
-// The largest answer, for which a region has no number.
-const LARGEST: u32 = 4294967295;
+// Nothing is known: the one answer for which a region has no number.
+pub const UNSETTLED: u32 = 4294967295;
 
 // The mode of a gate that has yet to act, from stage 0 on.
 const WAITING: u32 = 16;
@@ -68,9 +65,11 @@ pub fn note(memo: &mut [u32], plan: &[u32; 32], at: usize, x: u32, y: u32, mode:
     ensures { λ _. ⌜ now (memo .exit) ≡ noted (plan-of (now (plan .entry))) (now (memo .entry)) (numbered x y mode) answer ⌝ }
 {
     if at < 3 * plan[SPAN] as usize {
-        if answer < LARGEST {
-            memo[at] = answer + 1;
+        let mut kept = 0;
+        if answer < UNSETTLED {
+            kept = answer + 1;
         }
+        memo[at] = kept;
         return;
     }
     memo[at] = x;

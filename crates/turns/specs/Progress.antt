@@ -12,10 +12,10 @@ use Rattle.transitions.specs.State.{made, inside}
 
 -- what the walkers answer where there is no reference: the product needs more room; a number lies outside the width
 abbrev pub FULL : ℕ
-FULL = 4294967295
+FULL = 4294967293
 
 abbrev pub OUT : ℕ
-OUT = 4294967294
+OUT = 4294967292
 
 -- the store built so far; more was needed than there is room for, but every number so far lay in the width; one did not
 pub data Progress : Type 0 where

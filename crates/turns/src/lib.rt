@@ -13,10 +13,10 @@ ghost use Rattle.tables.specs.Table.{AtSlot};
 ghost use Rattle.turns.specs.Turn.{JoinReady, Joined, Finished, PlaceReady, Placed, Settled};
 
 // The product needs more room than there is.
-pub const FULL: u32 = 4294967295;
+pub const FULL: u32 = 4294967293;
 
 // A number of the product lies outside the width.
-pub const OUT: u32 = 4294967294;
+pub const OUT: u32 = 4294967292;
 
 // The node over two answers, if the walk still builds.
 fn join(

@@ -13,7 +13,7 @@ use Rattle.diagrams.specs.Diagram.{Node, branch, unused, code, ref-of, Distinct
 
 -- what is answered where a slot is missing: no reference is as large
 abbrev pub full : ℕ
-full = 4294967295
+full = 4294967293
 
 -- ---- what the first slots hold
 

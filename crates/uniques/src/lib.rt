@@ -11,7 +11,7 @@ ghost use Rattle.uniques.specs.UniqueTable.{found, node-in, nodes-in, no
 ghost use Rattle.uniques.specs.UniqueTable.{lifted, entry-in, with-entry, values-in, value-hash, ValuesHeld, ValueMade};
 
 // No slot is left.
-pub const FULL: u32 = 4294967295;
+pub const FULL: u32 = 4294967293;
 
 // A number below `heads`, by which nodes are spread over the chains.
 fn hash_node(heads: u32, lv: u32, lo: u32, hi: u32) -> usize

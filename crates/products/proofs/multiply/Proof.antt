@@ -8,8 +8,8 @@ use Rattle.products.proofs.multiply.Tie as tie
 slot-requires : tie.Need-slot-requires
 slot-requires c κs = search needs
 
-hand-over-requires : tie.Need-hand-over-requires
-hand-over-requires c κs =
+row-requires : tie.Need-row-requires
+row-requires c κs =
     let s = c .before .before .before .before .before .before .before .before in
     let e = s .before .before .before .before .before .before .before in
     starts _ _ _ _ (e .pre .0) _ _ (e .pre .1) (s .slot .ensures)
@@ -39,14 +39,14 @@ returns : tie.Need-returns
 returns c task =
     let h = c .before .before .before .before .before .before .before .before .before .before .before .before .before in
     let e = h .before .before .before .before .before .before .before .before .before .before .before .before .before .before .before .before in
-    steps _ _ _ _ task _ _ (e .pre .1) (h .hand-over .ensures)
+    steps _ _ _ _ task _ _ (e .pre .1) (h .row .ensures)
 
 pub multiply-spec : {M : Type 1} → statement M
 multiply-spec =
     tie.close
     (tie.spec
     slot-requires
-    hand-over-requires
+    row-requires
     same-length
     same-length-2
     same-length-3
