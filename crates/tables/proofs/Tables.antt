@@ -158,7 +158,8 @@ noted-other : (plan : Plan) (memo : List ℕ) (σ : State) (answer i : ℕ) → 
 noted-other plan memo σ answer i strange = by-way (noted-by plan memo σ answer)
   where
     by-way : Noting plan memo σ answer → getD (noted plan memo σ answer) i 0 ≡ getD memo i 0
-    by-way (in-number below is) = ap (λ (l : List ℕ). getD l i 0) is ∙ getD-set-other memo (slot-of plan σ) i (kept-as answer) 0 (λ at. strange (number below at))
+    by-way (in-number below is) =
+        ap (λ (l : List ℕ). getD l i 0) is ∙ getD-set-other memo (slot-of plan σ) i (kept-as answer) 0 (λ at. strange (number below at))
     by-way (in-entry past is) =
         let off : (k : ℕ) → k < 4 → i ≢ slot-of plan σ + k = λ k lt at. strange (word past (omega arith) (omega arith)) in
         let p : i ≢ slot-of plan σ = λ at. strange (word past (omega arith) (omega arith)) in
@@ -200,12 +201,15 @@ pub data AfterNoting (plan : Plan) (memo : List ℕ) (σ : State) (answer : ℕ)
   kept : recalled plan (noted plan memo σ answer) τ ≡ recalled plan memo τ → AfterNoting plan memo σ answer τ
   fresh : τ ≡ σ → recalled plan (noted plan memo σ answer) τ ≡ answer → AfterNoting plan memo σ answer τ
 
--- what a region tells of an answer kept there: nothing, or that answer
+-- what a region tells of an answer kept there: that answer, if it says that anything is known
+told-known : (answer : ℕ) → answer < unsettled → told (kept-as answer) ≡ answer
+told-known answer known = rw (lt-ltb answer unsettled known, ne-eqb (answer + 1) 0 (omega arith)) (omega arith)
+
 told-kept : (answer : ℕ) → (told (kept-as answer) ≡ unsettled) ⊎ (told (kept-as answer) ≡ answer)
 told-kept answer = by-test (ltb answer unsettled) refl
   where
     by-test : (b : Bool) → ltb answer unsettled ≡ b → (told (kept-as answer) ≡ unsettled) ⊎ (told (kept-as answer) ≡ answer)
-    by-test true e = inr (rw (e, ne-eqb (answer + 1) 0 (omega arith)) (omega arith))
+    by-test true e = inr (told-known answer (ltb-true _ _ e))
     by-test false e = inl (rw e)
 
 module _ (plan : Plan) (memo : List ℕ) (σ τ : State) (answer : ℕ) (fits : TableFits plan memo) (in-σ : InTable plan σ) (in-τ : InTable plan τ) where
@@ -263,6 +267,18 @@ module _ (plan : Plan) (memo : List ℕ) (σ τ : State) (answer : ℕ) (fits : 
       by-test : (b : Bool) → eqb (slot-of plan τ) (slot-of plan σ) ≡ b → AfterNoting plan memo σ answer τ
       by-test true e = recalled-same (eqb-true _ _ e) (noted-by plan memo σ answer)
       by-test false e = kept (recalled-apart (eqb-false _ _ e))
+
+-- every outcome is kept, want of room like any reference: what was noted last of a state is recalled
+pub noted-recalled : (plan : Plan) (memo : List ℕ) (σ : State) (answer : ℕ) → TableFits plan memo → InTable plan σ → answer < unsettled →
+    recalled plan (noted plan memo σ answer) σ ≡ answer
+noted-recalled plan memo σ answer fits in-σ known = by-way (noted-by plan memo σ answer)
+  where
+    by-way : Noting plan memo σ answer → recalled plan (noted plan memo σ answer) σ ≡ answer
+    by-way (in-number below is) =
+        ap (λ (l : List ℕ). recalled plan l σ) is ∙ number-recalled plan memo σ σ answer fits in-σ in-σ refl below ∙ told-known answer known
+    by-way (in-entry past is) =
+        ap (λ (l : List ℕ). recalled plan l σ) is ∙ entry-recalled plan memo σ σ answer fits in-σ in-σ refl past ∙
+        rw (eq-eqb (σ .mode + 1) (σ .mode + 1) refl, eq-eqb (σ .x) (σ .x) refl, eq-eqb (σ .y) (σ .y) refl)
 
 -- ---- every answer that is recalled is right
 

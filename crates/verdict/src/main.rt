@@ -1,4 +1,5 @@
 // The verdict program: reads two lists from standard input, judges them, and prints one line.
+use libc::STDERR_FILENO;
 use libc::STDIN_FILENO;
 use libc::STDOUT_FILENO;
 
@@ -7,5 +8,8 @@ fn main() {
     let n = io::read_full(STDIN_FILENO, &mut input);
     let mut line = [0; reports::ROOM];
     let end = inputs::answer_line(&input[..n], &mut line);
-    io::write_all(STDOUT_FILENO, &line[..end]);
+    if !io::write_all(STDOUT_FILENO, &line[..end]) {
+        // The language has no exit status, so a lost answer can only be told here.
+        io::write_all(STDERR_FILENO, b"verdict: the answer could not be written\n");
+    }
 }

@@ -66,7 +66,9 @@ module _ (t : ℕ) where
 
   large-requires : lts.Need-judge-large-requires calls (judge-sized-at t) judge-sized.Post
   large-requires c κs =
-      let s = c .before .before .before .before .before .before .before .before .before .before .before .before .before .before .before .before .before .before .before .before .before .before .before .before in
+      let s =
+      c .before .before .before .before .before .before .before .before .before .before .before .before .before .before .before .before .before
+      .before .before .before .before .before .before .before in
       (s .pre .1, passed-at-most _ _ _ _ _ _ (s .pre .1))
 
 pub +judge-sized-spec : {M : Type 1} → statement M

@@ -1,7 +1,7 @@
 -- `tables::note` meets its contract: an entry lies in the table, and each way out is a case of the definition. Assumes nothing.
 use mathlib.Core.Path.{ap, _∙_}
 use mathlib.Core.List.{List}
-use mathlib.Core.Logic.{_⊎_, inl, inr}
+use mathlib.Core.Logic.{⊎-elim}
 use Prim.Native.Nat.{ℕ, _+_, _≤_}
 use native.Mathlib.Omega.{arith}
 use lib.ListN.{length, set, length-set}
@@ -10,10 +10,6 @@ use Rattle.tables.proofs.Slots.{at-room}
 use Rattle.tables.proofs.Tables.{number-noted, nothing-noted, entry-noted}
 use Rattle.tables.proofs.note.Statement.{statement}
 use Rattle.tables.proofs.note.Tie as tie
-
-either : {A B C : Type 0} → A ⊎ B → (A → C) → (B → C) → C
-either (inl a) f g = f a
-either (inr b) f g = g b
 
 -- past the regions there is room for an entry
 room : (c : tie.Else1) → c .before .before .args .at + 4 ≤ length (c .before .before .args .memo .now)
@@ -45,9 +41,10 @@ returns : tie.Need-returns
 returns c =
     let e = c .before .before .before in
     let put : ℕ → List ℕ = set (e .args .memo .now) (e .args .at) in
-    either (c .if2 .came)
+    ⊎-elim
     (λ some. ap put (some .1) ∙ number-noted (e .pre) (e .args .answer) (c .before .if1 .taken) (some .0 .taken))
     (λ none. ap put (none .1) ∙ nothing-noted (e .pre) (e .args .answer) (c .before .if1 .taken) (none .0 .left))
+    (c .if2 .came)
 
 mul-memo-2 : tie.Need-mul-memo-2
 mul-memo-2 c = omega (arith, room c)

@@ -114,7 +114,8 @@ module _ (t : ℕ) where
 
   -- a state with a question left
 
-  row-asking : (k : row-lts.After-asked row-calls (row-at t) row.Post) → let e = k .before .before .before .before .before .before .before .before .before .before .before .args in
+  row-asking : (k : row-lts.After-asked row-calls (row-at t) row.Post) →
+      let e = k .before .before .before .before .before .before .before .before .before .before .before .args in
       Asking (e .plan .now) (map now (e .src .now)) (map now (e .values .now))
       (work (e .level .now) (e .low .now) (e .high .now) (e .terminals .now) (e .node-index .now) (e .value-index .now) (e .memo .now) (e .tally .now))
       (e .at) (k .asked .result) (numbered (e .x) (e .y) (e .mode))
@@ -139,7 +140,8 @@ module _ (t : ℕ) where
   row-slot-requires c κs = row-asking (c .before .before) .ready .work .table .sizes
 
   -- the state after the bit 0
-  row-low-ready : (c : row-lts.After-slot row-calls (row-at t) row.Post) → let e = c .before .before .before .before .before .before .before .before .before .before .before .before .before .before .args in
+  row-low-ready : (c : row-lts.After-slot row-calls (row-at t) row.Post) →
+      let e = c .before .before .before .before .before .before .before .before .before .before .before .before .before .before .args in
       Ready (e .plan .now) (map now (e .src .now)) (map now (e .values .now))
       (work (e .level .now) (e .low .now) (e .high .now) (e .terminals .now) (e .node-index .now) (e .value-index .now) (e .memo .now) (e .tally .now))
       (c .slot .result) (c .before .next .result)
@@ -178,7 +180,8 @@ module _ (t : ℕ) where
 
   -- the state after the bit 1
   row-high-ready : (c : row-lts.After-slot2 row-calls (row-at t) row.Post) →
-      let j = c .before .before in let e = j .before .before .before .before .before .before .before .before .before .before .before .before .before .before .before .before .before .args in
+      let j = c .before .before in
+      let e = j .before .before .before .before .before .before .before .before .before .before .before .before .before .before .before .before .before .args in
       Ready (e .plan .now) (map now (e .src .now)) (map now (e .values .now))
       (work (j .if4 .level) (j .if4 .low) (j .if4 .high) (j .if4 .terminals) (j .if4 .node-index) (j .if4 .value-index) (j .if4 .memo) (j .if4 .tally))
       (c .slot2 .result) (c .before .next2 .result)
@@ -304,7 +307,8 @@ module _ (t : ℕ) where
 
   -- a state with a question left
 
-  column-asking : (k : column-lts.After-asked column-calls (column-at t) column.Post) → let e = k .before .before .before .before .before .before .before .before .before .before .before .args in
+  column-asking : (k : column-lts.After-asked column-calls (column-at t) column.Post) →
+      let e = k .before .before .before .before .before .before .before .before .before .before .before .args in
       Asking (e .plan .now) (map now (e .src .now)) (map now (e .values .now))
       (work (e .level .now) (e .low .now) (e .high .now) (e .terminals .now) (e .node-index .now) (e .value-index .now) (e .memo .now) (e .tally .now))
       (e .at) (k .asked .result) (numbered (e .x) (e .y) (e .mode))
@@ -329,7 +333,8 @@ module _ (t : ℕ) where
   column-slot-requires c κs = column-asking (c .before .before) .ready .work .table .sizes
 
   -- the state after the bit 0
-  column-low-ready : (c : column-lts.After-slot column-calls (column-at t) column.Post) → let e = c .before .before .before .before .before .before .before .before .before .before .before .before .before .before .args in
+  column-low-ready : (c : column-lts.After-slot column-calls (column-at t) column.Post) →
+      let e = c .before .before .before .before .before .before .before .before .before .before .before .before .before .before .args in
       Ready (e .plan .now) (map now (e .src .now)) (map now (e .values .now))
       (work (e .level .now) (e .low .now) (e .high .now) (e .terminals .now) (e .node-index .now) (e .value-index .now) (e .memo .now) (e .tally .now))
       (c .slot .result) (c .before .next .result)
@@ -368,7 +373,8 @@ module _ (t : ℕ) where
 
   -- the state after the bit 1
   column-high-ready : (c : column-lts.After-slot2 column-calls (column-at t) column.Post) →
-      let j = c .before .before in let e = j .before .before .before .before .before .before .before .before .before .before .before .before .before .before .before .before .before .args in
+      let j = c .before .before in
+      let e = j .before .before .before .before .before .before .before .before .before .before .before .before .before .before .before .before .before .args in
       Ready (e .plan .now) (map now (e .src .now)) (map now (e .values .now))
       (work (j .if4 .level) (j .if4 .low) (j .if4 .high) (j .if4 .terminals) (j .if4 .node-index) (j .if4 .value-index) (j .if4 .memo) (j .if4 .tally))
       (c .slot2 .result) (c .before .next2 .result)
