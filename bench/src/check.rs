@@ -1,72 +1,85 @@
-//! The comparison without times: the library, the hash maps and the verdict program on every pair, once at each store size.
+//! The comparison without times: the library, the hash maps and the verdict program on every pair.
 
-use crate::agreement;
+use crate::agreement::{self, Agreement};
 use crate::families::{self, Case};
 use crate::inputs;
-use crate::library::{Lent, StoreSize};
+use crate::late_refusals::{self, LateRefusal};
+use crate::lent::{LARGEST, Lent};
 use crate::pair::Pair;
 use crate::program;
-use crate::report::Report;
-use crate::schedule::proportional;
+use gannetrope::{Limits, Report};
 use std::fs;
 use std::io;
+use std::path::PathBuf;
 
-/// Checks the families, and the files of `INPUTS` if it is set; gives what differs.
-pub fn all() -> io::Result<Vec<String>> {
-    let mut checker = Checker::default();
+/// Checks the families, the late refusals, and the files of `INPUTS` if it is set. The last line that it prints is
+/// 'N passed, M failed'; it gives whether all is well.
+pub fn all() -> io::Result<bool> {
+    let mut checker = Checker { program: program::path(), passed: 0, failed: 0 };
+    if checker.program.is_none() {
+        checker.count("verdict program", Err("it is missing".to_string()));
+    }
     for case in families::all() {
-        checker.check_case(&case)?;
+        checker.check_case(&case);
+    }
+    for late in late_refusals::all() {
+        checker.check_late_refusal(&late);
     }
     for path in inputs::folder().map_or(Ok(vec![]), |folder| inputs::files(&folder))? {
         if let Some(pair) = Pair::from_input(&fs::read(&path)?) {
-            checker.check_pair(&inputs::name(&path), &pair)?;
+            checker.check_pair(&inputs::name(&path), &pair, |_| Ok(()));
         }
     }
-    println!(
-        "{} pairs, {} differences",
-        checker.pairs,
-        checker.differences.len()
-    );
-    Ok(checker.differences)
+    println!("{} passed, {} failed", checker.passed, checker.failed);
+    Ok(checker.failed == 0)
 }
 
-#[derive(Default)]
 struct Checker {
-    pairs: usize,
-    differences: Vec<String>,
+    program: Option<PathBuf>,
+    passed: usize,
+    failed: usize,
 }
 
 impl Checker {
-    fn check_case(&mut self, case: &Case) -> io::Result<()> {
-        let name = case.name();
-        let report = self.check_pair(&name, &Pair::new(&case.first, &case.second))?;
-        self.note(&name, case.unlike_made(&report));
-        Ok(())
+    fn check_case(&mut self, case: &Case) {
+        let pair = Pair::new(&case.first, &case.second);
+        self.check_pair(&case.name(), &pair, |report| case.check_made(report));
     }
 
-    /// Checks one pair; gives the report with the larger stores.
-    fn check_pair(&mut self, name: &str, pair: &Pair) -> io::Result<Report> {
-        self.pairs += 1;
-        if pair.schedule() != proportional(pair.gates.0, pair.gates.1) {
-            self.note(name, Some("the schedules differ".to_string()));
+    fn check_late_refusal(&mut self, late: &LateRefusal) {
+        let name = late.name();
+        let at_its_limits = check_at(&late.refused(), late.limits)
+            .and_then(|report| late.check_made(&report))
+            .and_then(|()| check_at(&late.answered(), late.limits).map(drop));
+        self.count(&name, at_its_limits);
+        self.check_pair(&name, &late.refused(), |_| Ok(()));
+    }
+
+    /// A pair with the largest stores and with the verdict program's, and the program's line.
+    fn check_pair(&mut self, name: &str, pair: &Pair, check_made: impl FnOnce(&Report) -> Agreement) {
+        self.count(name, check_at(pair, LARGEST).and_then(|report| check_made(&report)));
+        let small = check_at(pair, Limits::default());
+        if let (Ok(report), Some(program)) = (&small, &self.program) {
+            let line = program::check(program, pair, report);
+            self.count(name, line);
         }
-        let small = self.check_at(name, pair, StoreSize::SMALL);
-        if let Some(program) = program::path() {
-            self.note(name, program::unlike(&program, pair, &small)?);
+        self.count(name, small.map(drop));
+    }
+
+    fn count(&mut self, name: &str, outcome: Agreement) {
+        match outcome {
+            Ok(()) => self.passed += 1,
+            Err(wrong) => {
+                self.failed += 1;
+                println!("FAILED {name}: {wrong}");
+            }
         }
-        Ok(self.check_at(name, pair, StoreSize::LARGE))
     }
+}
 
-    fn check_at(&mut self, name: &str, pair: &Pair, size: StoreSize) -> Report {
-        let mut lent = Lent::new(size);
-        pair.judge_by_library(&mut lent);
-        let judged = pair.judge_by_hash_maps(size);
-        self.note(name, agreement::difference(&lent, &judged));
-        judged.report
-    }
-
-    fn note(&mut self, name: &str, difference: Option<String>) {
-        let described = difference.map(|difference| format!("{name}: {difference}"));
-        self.differences.extend(described);
-    }
+/// Compares the library with the hash maps; gives their report.
+fn check_at(pair: &Pair, limits: Limits) -> Result<Report, String> {
+    let judged = pair.judge_by_hash_maps(limits);
+    agreement::check(pair, &mut Lent::new(limits), &judged)?;
+    Ok(judged.report)
 }

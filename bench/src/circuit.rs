@@ -1,5 +1,19 @@
 //! Gate lists and their form as bytes.
 
+use gannetrope::MOST_GATES;
+
+/// The most qubits that a list may have.
+const MOST_QUBITS: u8 = 16;
+
+/// How many bits of a number a byte holds.
+const GROUP_BITS: usize = 7;
+
+/// How many bytes a number may take.
+const MOST_GROUPS: usize = 3;
+
+/// The bit of a byte that says that the number goes on.
+const MORE: u8 = 0x80;
+
 /// What a gate does, by its code.
 #[derive(Clone, Copy, PartialEq, Eq, Debug)]
 #[repr(u8)]
@@ -17,18 +31,8 @@ pub enum Code {
 }
 
 impl Code {
-    pub const ALL: [Code; 10] = [
-        Code::X,
-        Code::Y,
-        Code::Z,
-        Code::H,
-        Code::S,
-        Code::Sdg,
-        Code::T,
-        Code::Tdg,
-        Code::Cnot,
-        Code::Cz,
-    ];
+    pub const ALL: [Code; 10] =
+        [Code::X, Code::Y, Code::Z, Code::H, Code::S, Code::Sdg, Code::T, Code::Tdg, Code::Cnot, Code::Cz];
 
     pub fn has_control(self) -> bool {
         matches!(self, Code::Cnot | Code::Cz)
@@ -54,19 +58,16 @@ pub struct Gate {
 
 impl Gate {
     pub fn one(code: Code, target: u8) -> Gate {
-        Gate {
-            code,
-            control: None,
-            target,
-        }
+        Gate { code, control: None, target }
     }
 
     pub fn two(code: Code, control: u8, target: u8) -> Gate {
-        Gate {
-            code,
-            control: Some(control),
-            target,
-        }
+        Gate { code, control: Some(control), target }
+    }
+
+    /// The gate that undoes this one.
+    pub fn inverse(self) -> Gate {
+        Gate { code: self.code.inverse(), ..self }
     }
 
     pub fn names(self, qubit: u8) -> bool {
@@ -109,12 +110,10 @@ impl Circuit {
         let mut reader = Reader { bytes };
         let qubits = u8::try_from(reader.number()?).ok()?;
         let count = reader.number()?;
-        if !(1..=16).contains(&qubits) || count > 4096 {
+        if !(1..=MOST_QUBITS).contains(&qubits) || count > MOST_GATES as usize {
             return None;
         }
-        let gates = (0..count)
-            .map(|_| reader.gate(qubits))
-            .collect::<Option<Vec<Gate>>>()?;
+        let gates = (0..count).map(|_| reader.gate(qubits)).collect::<Option<Vec<Gate>>>()?;
         reader.bytes.is_empty().then_some(Circuit { qubits, gates })
     }
 }
@@ -136,9 +135,9 @@ pub fn split_lists(input: &[u8]) -> Option<(&[u8], &[u8])> {
 }
 
 fn put_number(mut number: usize, bytes: &mut Vec<u8>) {
-    while number >= 128 {
-        bytes.push((number % 128) as u8 | 128);
-        number /= 128;
+    while number >> GROUP_BITS != 0 {
+        bytes.push(number as u8 | MORE);
+        number >>= GROUP_BITS;
     }
     bytes.push(number as u8);
 }
@@ -151,11 +150,11 @@ struct Reader<'a> {
 impl Reader<'_> {
     fn number(&mut self) -> Option<usize> {
         let mut number = 0;
-        for group in 0..3 {
+        for group in 0..MOST_GROUPS {
             let (&byte, rest) = self.bytes.split_first()?;
             self.bytes = rest;
-            number |= usize::from(byte % 128) << (7 * group);
-            if byte < 128 {
+            number |= usize::from(byte & !MORE) << (GROUP_BITS * group);
+            if byte & MORE == 0 {
                 return Some(number);
             }
         }
@@ -164,17 +163,9 @@ impl Reader<'_> {
 
     fn gate(&mut self, qubits: u8) -> Option<Gate> {
         let code = *Code::ALL.get(self.number()?)?;
-        let control = if code.has_control() {
-            Some(self.qubit(qubits)?)
-        } else {
-            None
-        };
+        let control = if code.has_control() { Some(self.qubit(qubits)?) } else { None };
         let target = self.qubit(qubits)?;
-        (control != Some(target)).then_some(Gate {
-            code,
-            control,
-            target,
-        })
+        (control != Some(target)).then_some(Gate { code, control, target })
     }
 
     fn qubit(&mut self, qubits: u8) -> Option<u8> {
@@ -191,11 +182,7 @@ mod tests {
     fn a_list_reads_back() {
         let circuit = Circuit {
             qubits: 3,
-            gates: vec![
-                Gate::one(Code::H, 0),
-                Gate::two(Code::Cnot, 0, 2),
-                Gate::one(Code::Tdg, 1),
-            ],
+            gates: vec![Gate::one(Code::H, 0), Gate::two(Code::Cnot, 0, 2), Gate::one(Code::Tdg, 1)],
         };
         assert_eq!(circuit.encode(), [3, 3, 3, 0, 8, 0, 2, 7, 1]);
         assert_eq!(Circuit::decode(&circuit.encode()), Some(circuit));
@@ -217,10 +204,7 @@ mod tests {
     #[test]
     fn joined_lists_split_again() {
         assert_eq!(join_lists(&[1, 0], &[1, 0]), [2, 1, 0, 1, 0]);
-        assert_eq!(
-            split_lists(&[2, 1, 0, 1, 0]),
-            Some((&[1, 0][..], &[1, 0][..]))
-        );
+        assert_eq!(split_lists(&[2, 1, 0, 1, 0]), Some((&[1, 0][..], &[1, 0][..])));
         assert_eq!(split_lists(&[9, 1, 0]), None);
     }
 }

@@ -3,11 +3,11 @@
 use crate::agreement;
 use crate::families::{Case, Growth};
 use crate::hashed::Work;
-use crate::library::{Lent, StoreSize};
+use crate::lent::{LARGEST, Lent, limits_for};
 use crate::pair::Pair;
 use crate::timing::{fastest, geometric_mean, in_turns, microseconds, ratio};
+use crate::verdict;
 use std::collections::BTreeMap;
-use std::hint::black_box;
 use std::time::Duration;
 
 /// What was measured of a case.
@@ -32,25 +32,16 @@ impl Row {
 /// Times the case and prints its line, or gives what differs.
 pub fn measure(case: &Case) -> Result<Row, String> {
     let pair = Pair::new(&case.first, &case.second);
-    let judged = pair.judge_by_hash_maps(StoreSize::LARGE);
-    let size = StoreSize::for_peaks(judged.work.peak_nodes, judged.work.peak_values);
-    let mut lent = Lent::new(size);
-    let (library, hash_maps) = in_turns(
-        || fastest(|| pair.judge_by_library(&mut lent)),
-        || fastest(|| drop(black_box(pair.judge_by_hash_maps(size)))),
-    );
-    let difference = agreement::difference(&lent, &judged);
-    if let Some(difference) = difference.or(case.unlike_made(&judged.report)) {
-        return Err(format!("{}: {difference}", case.name()));
-    }
-    let row = Row {
-        growth: case.growth,
-        qubits: pair.qubits,
-        work: judged.work,
-        library,
-        hash_maps,
-    };
-    println!("{}", line(case, judged.report.word(), &row));
+    let judged = pair.judge_by_hash_maps(LARGEST);
+    let limits = limits_for(&judged.work);
+    let mut lent = Lent::new(limits);
+    let (library, hash_maps) =
+        in_turns(|| fastest(|| pair.judge_by_library(&mut lent)), || fastest(|| pair.judge_by_hash_maps(limits)));
+    agreement::check(&pair, &mut lent, &judged)
+        .and_then(|()| case.check_made(&judged.report))
+        .map_err(|wrong| format!("{}: {wrong}", case.name()))?;
+    let row = Row { growth: case.growth, qubits: pair.qubits, work: judged.work, library, hash_maps };
+    println!("{}", line(case, verdict::word(&judged.report), &row));
     Ok(row)
 }
 
@@ -58,16 +49,7 @@ pub fn measure(case: &Case) -> Result<Row, String> {
 pub fn heading() -> String {
     format!(
         "{:<18} {:<11} {:>6} {:>9} {:<9} {:>6} {:>11} {:>8} {:>11} {:>6}",
-        "family",
-        "second list",
-        "qubits",
-        "gates",
-        "verdict",
-        "peak",
-        "proved us",
-        "ns/node",
-        "hashmap us",
-        "ratio"
+        "family", "second list", "qubits", "gates", "verdict", "peak", "proved us", "ns/node", "hashmap us", "ratio"
     )
 }
 
@@ -127,16 +109,10 @@ fn growth_with_gates(rows: &[Row]) -> String {
     }
     let mut text = String::from("growth with gates, ns per node and step:\n");
     for (qubits, points) in by_qubits {
-        let shown: Vec<String> = points
-            .iter()
-            .map(|(gates, time)| format!("{gates} gates {time:.1}"))
-            .collect();
+        let shown: Vec<String> = points.iter().map(|(gates, time)| format!("{gates} gates {time:.1}")).collect();
         let times: Vec<f64> = points.iter().map(|point| point.1).collect();
         let spread = most_by_least(&times);
-        text += &format!(
-            "  {qubits:>2} qubits: {}; most / least: {spread:.2}\n",
-            shown.join(", ")
-        );
+        text += &format!("  {qubits:>2} qubits: {}; most / least: {spread:.2}\n", shown.join(", "));
     }
     text
 }

@@ -1,9 +1,11 @@
 //! The circuit pairs that are timed, all made by seed.
 
+use crate::agreement::Agreement;
 use crate::circuit::{Circuit, Code, Gate};
 use crate::random::Random;
-use crate::report::Report;
 use crate::rewrite::{changed, inverted, reordered, rewritten};
+use crate::verdict;
+use gannetrope::Report;
 
 /// A pair of lists, and what it shows.
 pub struct Case {
@@ -23,10 +25,10 @@ impl Case {
         format!("{family}, {second_is}, {qubits} qubits, {gates} gates")
     }
 
-    /// How a report differs from what the lists were made to be.
-    pub fn unlike_made(&self, report: &Report) -> Option<String> {
+    /// Whether a report is what the lists were made for.
+    pub fn check_made(&self, report: &Report) -> Agreement {
         let made = if self.is_equal { "equal" } else { "different" };
-        (report.word() != made).then(|| format!("{report}, but made to be {made}"))
+        if verdict::word(report) == made { Ok(()) } else { Err(format!("{report}, but made to be {made}")) }
     }
 }
 
@@ -70,18 +72,9 @@ fn pairs(
     random: &mut Random,
 ) -> [Case; 2] {
     let different = changed(&equal, random);
-    let case = |second_is, second, is_equal| Case {
-        family,
-        second_is,
-        is_equal,
-        first: first.clone(),
-        second,
-        growth: None,
-    };
-    [
-        case(equal_is, equal, true),
-        case("one changed", different, false),
-    ]
+    let case =
+        |second_is, second, is_equal| Case { family, second_is, is_equal, first: first.clone(), second, growth: None };
+    [case(equal_is, equal, true), case("one changed", different, false)]
 }
 
 fn random_gate(qubits: u8, codes: &[Code], random: &mut Random) -> Gate {
@@ -95,9 +88,7 @@ fn random_gate(qubits: u8, codes: &[Code], random: &mut Random) -> Gate {
 }
 
 fn random_list(qubits: u8, count: usize, codes: &[Code], random: &mut Random) -> Circuit {
-    let gates = (0..count)
-        .map(|_| random_gate(qubits, codes, random))
-        .collect();
+    let gates = (0..count).map(|_| random_gate(qubits, codes, random)).collect();
     Circuit { qubits, gates }
 }
 
@@ -139,20 +130,11 @@ fn bernstein_vazirani_pairs(qubits: u8) -> [Case; 2] {
     full.extend((0..last).map(h));
 
     let mut short = vec![Gate::one(Code::X, last), h(last)];
-    short.extend(
-        secret
-            .iter()
-            .flat_map(|qubit| [h(*qubit), ask(qubit), h(*qubit)]),
-    );
+    short.extend(secret.iter().flat_map(|qubit| [h(*qubit), ask(qubit), h(*qubit)]));
 
     let circuit = |gates| Circuit { qubits, gates };
     let equal = rewritten(&circuit(short), 50, random);
-    pairs(
-        "Bernstein-Vazirani",
-        circuit(full),
-        ("rewritten", equal),
-        random,
-    )
+    pairs("Bernstein-Vazirani", circuit(full), ("rewritten", equal), random)
 }
 
 /// The Clifford+T network of a Toffoli gate.
@@ -211,10 +193,7 @@ fn adder_pairs(qubits: u8) -> [Case; 2] {
 /// Long lists: phases, permutations and a few H gates, against another order.
 fn deep_pairs(qubits: u8, count: usize) -> [Case; 2] {
     let random = &mut Random::new(500 + 10 * count as u64 + u64::from(qubits));
-    let without_h: Vec<Code> = Code::ALL
-        .into_iter()
-        .filter(|&code| code != Code::H)
-        .collect();
+    let without_h: Vec<Code> = Code::ALL.into_iter().filter(|&code| code != Code::H).collect();
     let mut first = random_list(qubits, count, &without_h, random);
     for _ in 0..12 {
         let place = random.below(count);
@@ -236,12 +215,7 @@ struct BlowUp {
 }
 
 const fn blow_up_to(nodes: usize, qubits: u8, seed: u64, gates: usize) -> BlowUp {
-    BlowUp {
-        nodes,
-        qubits,
-        seed,
-        gates,
-    }
+    BlowUp { nodes, qubits, seed, gates }
 }
 
 /// Of many seeds those that stay longest just below the number of nodes; with one gate more they pass it.

@@ -10,9 +10,8 @@ pub fn folder() -> Option<PathBuf> {
 
 /// The folder's files, by name.
 pub fn files(folder: &Path) -> io::Result<Vec<PathBuf>> {
-    let mut files = fs::read_dir(folder)?
-        .map(|entry| entry.map(|entry| entry.path()))
-        .collect::<io::Result<Vec<PathBuf>>>()?;
+    let mut files =
+        fs::read_dir(folder)?.map(|entry| entry.map(|entry| entry.path())).collect::<io::Result<Vec<PathBuf>>>()?;
     files.retain(|path| path.is_file());
     files.sort();
     Ok(files)

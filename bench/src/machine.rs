@@ -9,10 +9,7 @@ pub fn description() -> String {
     let processor = value("/proc/cpuinfo", "model name", ':');
     let system = value("/etc/os-release", "PRETTY_NAME", '=');
     let kernel = fs::read_to_string("/proc/sys/kernel/osrelease").unwrap_or_default();
-    format!(
-        "{processor}, {cores} cores; {system}, Linux {}",
-        kernel.trim()
-    )
+    format!("{processor}, {cores} cores; {system}, Linux {}", kernel.trim())
 }
 
 /// The value on the first line that begins with a key.

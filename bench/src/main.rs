@@ -1,7 +1,8 @@
 //! The benchmark: the proved library beside a plain hash-map implementation, over circuits made by seed.
 //!
-//! `--check` compares reports and stores without timing. `GANNETROPE_VERDICT` names the verdict program; `REFERENCE` and
-//! `INPUTS` a reference program and a folder of inputs to time it on. It exits with 1 if anything differs.
+//! `--check` compares reports and stores without timing. `GANNETROPE_VERDICT` names the verdict program; `REFERENCE`
+//! and `INPUTS` a reference program and a folder of inputs to time it on. It exits with 1 if anything differs, or if a
+//! refused step takes too long.
 
 mod agreement;
 mod check;
@@ -10,38 +11,36 @@ mod comparison;
 mod families;
 mod hashed;
 mod inputs;
-mod library;
+mod late_refusals;
+mod lent;
 mod machine;
 mod pair;
+mod processor;
 mod program;
 mod random;
 mod reference;
-mod report;
+mod refused_steps;
 mod rewrite;
-mod schedule;
 mod timing;
+mod verdict;
 
 use reference::Reference;
 use std::io;
 use std::process::ExitCode;
-use std::thread;
-
-/// The library's tables for large stores take about 4.7 MB of stack.
-const STACK: usize = 16 << 20;
 
 fn main() -> ExitCode {
-    let check_only = match std::env::args().nth(1).as_deref() {
-        None => false,
-        Some("--check") => true,
+    let work = match std::env::args().nth(1).as_deref() {
+        None => measure,
+        Some("--check") => check::all,
         Some(other) => {
             eprintln!("unknown argument '{other}': only --check is known");
             return ExitCode::from(2);
         }
     };
-    let work = move || if check_only { check::all() } else { measure() };
-    let thread = thread::Builder::new().stack_size(STACK).spawn(work);
-    match thread.expect("a thread").join().expect("no panic") {
-        Ok(differences) => conclude(&differences),
+    // on one large stack, so that no timed call has to make a thread
+    match gannetrope::with_stack(work) {
+        Ok(true) => ExitCode::SUCCESS,
+        Ok(false) => ExitCode::FAILURE,
         Err(error) => {
             eprintln!("{error}");
             ExitCode::FAILURE
@@ -49,43 +48,49 @@ fn main() -> ExitCode {
     }
 }
 
-fn conclude(differences: &[String]) -> ExitCode {
-    for difference in differences {
-        println!("MISMATCH {difference}");
-    }
-    match differences {
-        [] => ExitCode::SUCCESS,
-        _ => ExitCode::FAILURE,
-    }
-}
-
-/// Times everything and prints the tables.
-fn measure() -> io::Result<Vec<String>> {
+/// Times everything, prints the tables and then what is wrong; gives whether nothing is.
+fn measure() -> io::Result<bool> {
     println!("machine: {}\n", machine::description());
-    let mut differences = Vec::new();
-    measure_families(&mut differences);
+    let mut failures = Vec::new();
+    measure_families(&mut failures);
+    measure_refusals(&mut failures);
     match Reference::from_environment() {
-        Some(reference) => reference.compare(&mut differences)?,
+        Some(reference) => reference.compare(&mut failures)?,
         None => println!("no reference program: REFERENCE and INPUTS are not both set\n"),
     }
-    match program::path() {
+    match program::path().map(|program| program::measure(&program)) {
         None => println!("no verdict program"),
-        Some(program) => match program::measure(&program)? {
-            Ok(line) => println!("{line}"),
-            Err(difference) => differences.push(difference),
-        },
+        Some(measured) => print_or_note(measured, &mut failures),
     }
-    Ok(differences)
+    for failure in &failures {
+        println!("FAILED {failure}");
+    }
+    Ok(failures.is_empty())
 }
 
-fn measure_families(differences: &mut Vec<String>) {
+fn measure_families(failures: &mut Vec<String>) {
     println!("{}", comparison::heading());
-    let mut rows = Vec::new();
-    for case in families::all() {
-        match comparison::measure(&case) {
-            Ok(row) => rows.push(row),
-            Err(difference) => differences.push(difference),
-        }
-    }
+    let cases = families::all();
+    let rows = successes(cases.iter().map(comparison::measure), failures);
     println!("\n{}", comparison::summary(&rows));
+}
+
+fn measure_refusals(failures: &mut Vec<String>) {
+    println!("late refusals\n{}", refused_steps::heading());
+    let refusals = late_refusals::all();
+    let rows = successes(refusals.iter().map(refused_steps::measure), failures);
+    print_or_note(refused_steps::summary(&rows), failures);
+    println!();
+}
+
+/// The values of what went well; the rest is noted.
+fn successes<T>(results: impl Iterator<Item = Result<T, String>>, failures: &mut Vec<String>) -> Vec<T> {
+    results.filter_map(|result| result.map_err(|failure| failures.push(failure)).ok()).collect()
+}
+
+fn print_or_note(line: Result<String, String>, failures: &mut Vec<String>) {
+    match line {
+        Ok(line) => println!("{line}"),
+        Err(failure) => failures.push(failure),
+    }
 }

@@ -1,11 +1,9 @@
 //! A pair of lists as bytes with its schedule, ready to be judged.
 
-use crate::circuit::{join_lists, split_lists, Circuit};
-use crate::hashed::{self, Judged, Limits};
-use crate::library::{self, Lent, StoreSize};
-
-/// The width that everything is judged at.
-const WIDTH: u32 = 32;
+use crate::circuit::{Circuit, Gate, join_lists, split_lists};
+use crate::hashed::{self, Judged};
+use crate::lent::Lent;
+use gannetrope::{Limits, Report, judge_in, proportional};
 
 pub struct Pair {
     pub qubits: u8,
@@ -15,15 +13,36 @@ pub struct Pair {
     schedule: Vec<u8>,
 }
 
+/// A step of a run: the next gate, and the byte of the schedule that says whose it is.
+#[derive(Clone, Copy)]
+pub struct Step {
+    pub gate: Gate,
+    pub list: u8,
+}
+
+impl Step {
+    /// The step that takes this one back.
+    pub fn undone(self) -> Step {
+        Step { gate: self.gate.inverse(), list: self.list }
+    }
+}
+
 impl Pair {
+    /// The pair by the proportional schedule.
     pub fn new(first: &Circuit, second: &Circuit) -> Pair {
-        let gates = (first.gates.len(), second.gates.len());
+        Pair::of_steps(first.qubits, &steps(first, second))
+    }
+
+    /// The pair whose run has just these steps.
+    pub fn of_steps(qubits: u8, steps: &[Step]) -> Pair {
+        let gates_of = |list| steps.iter().filter(|step| step.list == list).map(|step| step.gate).collect();
+        let [first, second] = [0, 1].map(|list| Circuit { qubits, gates: gates_of(list) });
         Pair {
-            qubits: first.qubits,
-            gates,
+            qubits,
+            gates: (first.gates.len(), second.gates.len()),
             list1: first.encode(),
             list2: second.encode(),
-            schedule: library::schedule(gates.0, gates.1),
+            schedule: steps.iter().map(|step| step.list).collect(),
         }
     }
 
@@ -39,20 +58,21 @@ impl Pair {
         join_lists(&self.list1, &self.list2)
     }
 
-    pub fn schedule(&self) -> &[u8] {
-        &self.schedule
+    pub fn judge_by_library(&self, lent: &mut Lent) -> Report {
+        let width = lent.limits.width;
+        judge_in(&self.list1, &self.list2, &self.schedule, width, lent.first.columns(), lent.second.columns())
     }
 
-    pub fn judge_by_library(&self, lent: &mut Lent) {
-        lent.judge(&self.list1, &self.list2, &self.schedule, WIDTH);
-    }
-
-    pub fn judge_by_hash_maps(&self, size: StoreSize) -> Judged {
-        let limits = Limits {
-            width: WIDTH,
-            nodes: size.nodes,
-            values: size.values,
-        };
+    pub fn judge_by_hash_maps(&self, limits: Limits) -> Judged {
         hashed::judge(&self.list1, &self.list2, &self.schedule, limits)
     }
+}
+
+/// The steps of two lists by the proportional schedule.
+pub fn steps(first: &Circuit, second: &Circuit) -> Vec<Step> {
+    let [m, p] = [first, second].map(|circuit| circuit.gates.len() as u32);
+    let schedule = proportional(m, p).expect("no list is too long");
+    let mut gates = [&first.gates, &second.gates].map(|gates| gates.iter().copied());
+    let step = |list: u8| Step { gate: gates[usize::from(list)].next().expect("the schedule fits"), list };
+    schedule.into_iter().map(step).collect()
 }

@@ -1,10 +1,10 @@
-//! The verdict program as a whole process, on a small pair.
+//! The verdict program as a whole process.
 
+use crate::agreement::Agreement;
 use crate::circuit::{Circuit, Code, Gate};
-use crate::library::StoreSize;
 use crate::pair::Pair;
-use crate::report::Report;
 use crate::timing::microseconds;
+use gannetrope::{Limits, Report};
 use std::io::{self, Write};
 use std::path::{Path, PathBuf};
 use std::process::{Command, Stdio};
@@ -21,55 +21,52 @@ pub fn path() -> Option<PathBuf> {
     path.exists().then_some(path)
 }
 
-/// How the program's line for the pair differs from a report's.
-pub fn unlike(program: &Path, pair: &Pair, report: &Report) -> io::Result<Option<String>> {
+/// Compares the program's line for the pair with a report at the program's limits.
+pub fn check(program: &Path, pair: &Pair, report: &Report) -> Agreement {
     let line = run(program, &pair.input())?;
-    let is_same = line == format!("{report}\n");
-    Ok((!is_same).then(|| format!("verdict program: {}; else: {report}", line.trim_end())))
+    if line == format!("{report}\n") {
+        return Ok(());
+    }
+    Err(format!("verdict program: {}; else: {report}", line.trim_end()))
 }
 
 /// Times the program on a small pair, beside a program that does nothing.
-pub fn measure(program: &Path) -> io::Result<Result<String, String>> {
+pub fn measure(program: &Path) -> Result<String, String> {
     let pair = small_pair();
-    let report = pair.judge_by_hash_maps(StoreSize::SMALL).report;
-    if let Some(difference) = unlike(program, &pair, &report)? {
-        return Ok(Err(difference));
-    }
+    check(program, &pair, &pair.judge_by_hash_maps(Limits::default()).report)?;
     let input = pair.input();
     let (mut whole, mut nothing) = (Vec::new(), Vec::new());
     for _ in 0..RUNS {
         whole.push(time(program, &input)?);
         nothing.push(time(Path::new("true"), &[])?);
     }
-    Ok(Ok(format!(
+    Ok(format!(
         "verdict program, whole process, CNOT against H CZ H: {}; the program 'true': {}",
         spread(whole),
         spread(nothing)
-    )))
+    ))
 }
 
 /// A CNOT and its rewriting.
 fn small_pair() -> Pair {
     let circuit = |gates| Circuit { qubits: 2, gates };
     let h = Gate::one(Code::H, 1);
-    Pair::new(
-        &circuit(vec![Gate::two(Code::Cnot, 0, 1)]),
-        &circuit(vec![h, Gate::two(Code::Cz, 0, 1), h]),
-    )
+    Pair::new(&circuit(vec![Gate::two(Code::Cnot, 0, 1)]), &circuit(vec![h, Gate::two(Code::Cz, 0, 1), h]))
 }
 
-fn time(program: &Path, input: &[u8]) -> io::Result<Duration> {
+fn time(program: &Path, input: &[u8]) -> Result<Duration, String> {
     let start = Instant::now();
     run(program, input)?;
     Ok(start.elapsed())
 }
 
-/// What the program writes for the input.
-fn run(program: &Path, input: &[u8]) -> io::Result<String> {
-    let mut child = Command::new(program)
-        .stdin(Stdio::piped())
-        .stdout(Stdio::piped())
-        .spawn()?;
+/// What a program writes for an input.
+fn run(program: &Path, input: &[u8]) -> Result<String, String> {
+    output(program, input).map_err(|error| format!("{}: {error}", program.display()))
+}
+
+fn output(program: &Path, input: &[u8]) -> io::Result<String> {
+    let mut child = Command::new(program).stdin(Stdio::piped()).stdout(Stdio::piped()).spawn()?;
     if !input.is_empty() {
         child.stdin.take().expect("a pipe").write_all(input)?;
     }
@@ -79,9 +76,5 @@ fn run(program: &Path, input: &[u8]) -> io::Result<String> {
 
 fn spread(mut times: Vec<Duration>) -> String {
     times.sort();
-    format!(
-        "median {:.0} us, fastest {:.0} us",
-        microseconds(times[times.len() / 2]),
-        microseconds(times[0])
-    )
+    format!("median {:.0} us, fastest {:.0} us", microseconds(times[times.len() / 2]), microseconds(times[0]))
 }

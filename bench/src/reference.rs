@@ -1,19 +1,24 @@
 //! The proved library beside a reference program, on files of the verdict program's input.
 //!
-//! The program takes `-r REPETITIONS -N NODES -L VALUES FILE` and prints a line with `us MEDIAN min FASTEST` in microseconds;
-//! where it also prints `steps S`, `nodes N` and `values L`, those are compared.
+//! The program takes `-r REPETITIONS -N NODES -L VALUES FILE` and prints a line with `us MEDIAN min FASTEST` in
+//! microseconds; where it also prints `steps S`, `nodes N` and `values L`, those are compared.
 
 use crate::inputs;
-use crate::library::{Lent, StoreSize};
+use crate::lent::{LARGEST, Lent};
 use crate::pair::Pair;
-use crate::report::{Report, Verdict};
-use crate::timing::{fastest, geometric_mean, in_turns, microseconds, ratio, LEAST_TURN};
+use crate::timing::{LEAST_TURN, fastest, geometric_mean, in_turns, microseconds, ratio};
+use crate::verdict;
+use gannetrope::{Limits, Refusal, Report, Verdict};
 use std::collections::BTreeMap;
 use std::fs;
 use std::io;
 use std::path::{Path, PathBuf};
 use std::process::Command;
 use std::time::Duration;
+
+/// How often the program judges a file in a turn, at least and at most.
+const FEWEST_REPETITIONS: usize = 2;
+const MOST_REPETITIONS: usize = 5000;
 
 /// The program and the folder of inputs, from `REFERENCE` and `INPUTS`.
 pub struct Reference {
@@ -30,10 +35,7 @@ struct Row {
 
 impl Reference {
     pub fn from_environment() -> Option<Reference> {
-        Some(Reference {
-            program: PathBuf::from(std::env::var_os("REFERENCE")?),
-            inputs: inputs::folder()?,
-        })
+        Some(Reference { program: PathBuf::from(std::env::var_os("REFERENCE")?), inputs: inputs::folder()? })
     }
 
     /// Times every file, prints a line for each and the means; notes what differs.
@@ -55,77 +57,63 @@ impl Reference {
     }
 
     fn measure(&self, path: &Path, pair: &Pair) -> io::Result<Result<Row, String>> {
-        let (size, mut lent) = lent_for(pair);
+        let mut lent = lent_for(pair);
         let name = inputs::name(path);
         let estimate = fastest(|| pair.judge_by_library(&mut lent));
-        let report = lent.report();
-        let line = self.run(path, size, 1)?;
+        let report = pair.judge_by_library(&mut lent);
+        let line = self.run(path, lent.limits, 1)?;
         if let Some(difference) = disagreement(&line, &report) {
-            return Ok(Err(format!(
-                "{name}: library: {report}; reference: {difference}"
-            )));
+            return Ok(Err(format!("{name}: library: {report}; reference: {difference}")));
         }
-        let repetitions = repetitions(estimate);
+        let (limits, repetitions) = (lent.limits, repetitions(estimate));
         let mut failure = None;
         let (library, reference) = in_turns(
             || fastest(|| pair.judge_by_library(&mut lent)),
             || {
-                self.fastest(path, size, repetitions)
-                    .unwrap_or_else(|error| {
-                        failure = Some(error);
-                        Duration::MAX
-                    })
+                self.fastest(path, limits, repetitions).unwrap_or_else(|error| {
+                    failure = Some(error);
+                    Duration::MAX
+                })
             },
         );
         if let Some(error) = failure {
             return Err(error);
         }
         println!("{}", line_of(&name, pair, &report, library, reference));
-        Ok(Ok(Row {
-            family: family(&name),
-            refused: report.is_refused(),
-            ratio: ratio(library, reference),
-        }))
+        let refused = verdict::is_refused(&report);
+        Ok(Ok(Row { family: family(&name), refused, ratio: ratio(library, reference) }))
     }
 
-    fn fastest(&self, path: &Path, size: StoreSize, repetitions: usize) -> io::Result<Duration> {
-        let line = self.run(path, size, repetitions)?;
+    fn fastest(&self, path: &Path, limits: Limits, repetitions: usize) -> io::Result<Duration> {
+        let line = self.run(path, limits, repetitions)?;
         let time: Option<f64> = field(&line, "min").and_then(|word| word.parse().ok());
         match time {
             Some(time) => Ok(Duration::from_secs_f64(time / 1e6)),
-            None => Err(io::Error::other(format!(
-                "no time in '{}'",
-                line.trim_end()
-            ))),
+            None => Err(io::Error::other(format!("no time in '{}'", line.trim_end()))),
         }
     }
 
-    fn run(&self, path: &Path, size: StoreSize, repetitions: usize) -> io::Result<String> {
+    fn run(&self, path: &Path, limits: Limits, repetitions: usize) -> io::Result<String> {
         let output = Command::new(&self.program)
             .args(["-r", &repetitions.to_string()])
-            .args(["-N", &size.nodes.to_string()])
-            .args(["-L", &size.values.to_string()])
+            .args(["-N", &limits.nodes.to_string()])
+            .args(["-L", &limits.values.to_string()])
             .arg(path)
             .output()?;
         String::from_utf8(output.stdout).map_err(io::Error::other)
     }
 }
 
-/// The smaller stores if the pair fits in them, else the larger ones.
-fn lent_for(pair: &Pair) -> (StoreSize, Lent) {
-    let mut lent = Lent::new(StoreSize::SMALL);
-    pair.judge_by_library(&mut lent);
-    if lent.report().is_full() {
-        (StoreSize::LARGE, Lent::new(StoreSize::LARGE))
-    } else {
-        (StoreSize::SMALL, lent)
-    }
+/// Stores of the verdict program's limits if the pair fits in them, else the largest.
+fn lent_for(pair: &Pair) -> Lent {
+    let mut lent = Lent::new(Limits::default());
+    if verdict::is_full(&pair.judge_by_library(&mut lent)) { Lent::new(LARGEST) } else { lent }
 }
 
 /// About as many as the library is given for a turn.
 fn repetitions(estimate: Duration) -> usize {
     let runs = LEAST_TURN.as_secs_f64() / estimate.as_secs_f64();
-    (runs as usize).clamp(2, 5000)
+    (runs as usize).clamp(FEWEST_REPETITIONS, MOST_REPETITIONS)
 }
 
 /// The word after the last `key` of a line, past the name that it begins with.
@@ -138,12 +126,9 @@ fn field<'a>(line: &'a str, key: &str) -> Option<&'a str> {
 /// What the reference's line says otherwise: the steps, and of an answered pair the nodes and values.
 fn disagreement(line: &str, report: &Report) -> Option<String> {
     let expected = match report.verdict {
-        Verdict::Refused(refusal) => vec![("steps", refusal.steps)],
-        _ => vec![
-            ("steps", report.steps),
-            ("nodes", report.nodes),
-            ("values", report.values),
-        ],
+        Verdict::Refused(Refusal::Step { steps, .. }) => vec![("steps", steps)],
+        Verdict::Refused(_) => vec![],
+        _ => vec![("steps", report.steps), ("nodes", report.nodes), ("values", report.values)],
     };
     expected.into_iter().find_map(|(key, number)| {
         let found = field(line, key)?;
@@ -163,19 +148,13 @@ fn heading() -> String {
     )
 }
 
-fn line_of(
-    name: &str,
-    pair: &Pair,
-    report: &Report,
-    library: Duration,
-    reference: Duration,
-) -> String {
+fn line_of(name: &str, pair: &Pair, report: &Report, library: Duration, reference: Duration) -> String {
     format!(
         "{:<22} {:>6} {:>9} {:<9} {:>11.1} {:>12.1} {:>6.2}",
         name,
         pair.qubits,
         format!("{}+{}", pair.gates.0, pair.gates.1),
-        report.word(),
+        verdict::word(report),
         microseconds(library),
         microseconds(reference),
         ratio(library, reference)
@@ -191,9 +170,7 @@ fn summary(rows: &[Row], skipped: usize) -> String {
     for (family, ratios) in &families {
         text += &mean_line(family, ratios);
     }
-    let of = |wanted: &dyn Fn(&&Row) -> bool| -> Vec<f64> {
-        rows.iter().filter(wanted).map(|row| row.ratio).collect()
-    };
+    let of = |wanted: &dyn Fn(&&Row) -> bool| -> Vec<f64> { rows.iter().filter(wanted).map(|row| row.ratio).collect() };
     text += &mean_line("all", &of(&|_| true));
     text += &mean_line("all answered", &of(&|row| !row.refused));
     text += &format!("  {skipped} files skipped: other gate codes\n");

@@ -15,18 +15,13 @@ pub fn rewritten(circuit: &Circuit, percent: usize, random: &mut Random) -> Circ
             gates.push(gate);
             continue;
         }
-        let choices: Vec<Vec<Gate>> = templates(gate)
-            .into_iter()
-            .filter(|template| added_h(gate, template) <= spare_h)
-            .collect();
+        let choices: Vec<Vec<Gate>> =
+            templates(gate).into_iter().filter(|template| added_h(gate, template) <= spare_h).collect();
         let template = &choices[random.below(choices.len())];
         spare_h -= added_h(gate, template);
         gates.extend(template);
     }
-    Circuit {
-        qubits: circuit.qubits,
-        gates,
-    }
+    Circuit { qubits: circuit.qubits, gates }
 }
 
 fn added_h(gate: Gate, template: &[Gate]) -> usize {
@@ -39,14 +34,8 @@ fn templates(gate: Gate) -> Vec<Vec<Gate>> {
     let q = gate.target;
     let all = |codes: &[Code]| codes.iter().map(|&code| Gate::one(code, q)).collect();
     match gate.code {
-        Code::X => vec![
-            all(&[Code::Z, Code::X, Code::Z]),
-            all(&[Code::H, Code::Z, Code::H]),
-        ],
-        Code::Y => vec![
-            all(&[Code::S, Code::X, Code::Sdg]),
-            all(&[Code::Z, Code::X]),
-        ],
+        Code::X => vec![all(&[Code::Z, Code::X, Code::Z]), all(&[Code::H, Code::Z, Code::H])],
+        Code::Y => vec![all(&[Code::S, Code::X, Code::Sdg]), all(&[Code::Z, Code::X])],
         Code::Z => vec![all(&[Code::S, Code::S])],
         Code::H => vec![all(&[Code::X, Code::H, Code::Z])],
         Code::S => vec![all(&[Code::T, Code::T]), all(&[Code::Z, Code::Sdg])],
@@ -75,13 +64,7 @@ fn cz_templates(c: u8, t: u8) -> Vec<Vec<Gate>> {
     vec![
         vec![Gate::two(Code::Cz, t, c)],
         vec![h_t, cnot, h_t],
-        vec![
-            Gate::one(Code::S, c),
-            Gate::one(Code::S, t),
-            cnot,
-            Gate::one(Code::Sdg, t),
-            cnot,
-        ],
+        vec![Gate::one(Code::S, c), Gate::one(Code::S, t), cnot, Gate::one(Code::Sdg, t), cnot],
     ]
 }
 
@@ -98,10 +81,7 @@ pub fn reordered(circuit: &Circuit, random: &mut Random) -> Circuit {
             *gate = Gate::two(Code::Cz, gate.target, control);
         }
     }
-    Circuit {
-        qubits: circuit.qubits,
-        gates,
-    }
+    Circuit { qubits: circuit.qubits, gates }
 }
 
 /// The list with one gate's code changed. No two codes have proportional matrices, so it is never equal.
@@ -120,46 +100,27 @@ pub fn changed(circuit: &Circuit, random: &mut Random) -> Circuit {
         Code::Cnot => Code::Cz,
         Code::Cz => Code::Cnot,
     };
-    Circuit {
-        qubits: circuit.qubits,
-        gates,
-    }
+    Circuit { qubits: circuit.qubits, gates }
 }
 
 /// The list that undoes this one.
 pub fn inverted(gates: &[Gate]) -> Vec<Gate> {
-    let invert = |gate: &Gate| Gate {
-        code: gate.code.inverse(),
-        ..*gate
-    };
-    gates.iter().rev().map(invert).collect()
+    gates.iter().rev().map(|gate| gate.inverse()).collect()
 }
 
 #[cfg(test)]
 mod tests {
     use super::*;
-    use crate::hashed::{self, Limits};
-    use crate::report::Verdict;
-    use crate::schedule::proportional;
+    use crate::lent::LARGEST;
+    use crate::pair::Pair;
+    use gannetrope::Verdict;
 
     fn verdict(first: &Circuit, second: &Circuit) -> Verdict {
-        let schedule = proportional(first.gates.len(), second.gates.len());
-        let limits = Limits {
-            width: 32,
-            nodes: 65_536,
-            values: 65_536,
-        };
-        hashed::judge(&first.encode(), &second.encode(), &schedule, limits)
-            .report
-            .verdict
+        Pair::new(first, second).judge_by_hash_maps(LARGEST).report.verdict
     }
 
     fn every_gate() -> Vec<Gate> {
-        let gate = |code: Code| Gate {
-            code,
-            control: code.has_control().then_some(0),
-            target: 1,
-        };
+        let gate = |code: Code| Gate { code, control: code.has_control().then_some(0), target: 1 };
         Code::ALL.map(gate).to_vec()
     }
 
@@ -174,10 +135,7 @@ mod tests {
             assert!(choices.iter().any(|template| added_h(gate, template) == 0));
             for template in choices {
                 let verdict = verdict(&alone(vec![gate]), &alone(template.clone()));
-                assert!(
-                    matches!(verdict, Verdict::Equal { .. }),
-                    "{gate:?} {template:?}"
-                );
+                assert!(matches!(verdict, Verdict::Equal { .. }), "{gate:?} {template:?}");
             }
         }
     }
@@ -187,10 +145,7 @@ mod tests {
         for gate in every_gate() {
             let before = alone(vec![gate]);
             let after = changed(&before, &mut Random::new(1));
-            assert!(
-                matches!(verdict(&before, &after), Verdict::Different { .. }),
-                "{gate:?}"
-            );
+            assert!(matches!(verdict(&before, &after), Verdict::Different { .. }), "{gate:?}");
         }
     }
 

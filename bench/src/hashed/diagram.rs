@@ -1,6 +1,6 @@
-//! Reduced diagrams: levels ask in turn for the row bit and the column bit of qubit 0, 1, ..; the terminals are entries.
+//! Reduced diagrams: levels ask in turn for the row bit and the column bit of qubit 0, 1, ..; terminals are entries.
 
-use crate::report::Entry;
+use gannetrope::{Entry, Limits, Store};
 use std::collections::HashMap;
 
 /// Twice a value's number, or twice a node's number and one more.
@@ -73,6 +73,18 @@ impl Diagram {
         !reference.is_node() && self.value(reference) == entry
     }
 
+    /// A store of such limits that holds the diagram in its first slots and 0 in all others.
+    pub fn store(&self, limits: Limits) -> Store {
+        let mut store = Store::new(limits.nodes, limits.values);
+        for (slot, node) in self.nodes.iter().enumerate() {
+            (store.level[slot], store.low[slot], store.high[slot]) = (node.level, node.low.0, node.high.0);
+        }
+        for (slot, value) in self.values.iter().enumerate() {
+            (store.a[slot], store.b[slot], store.c[slot], store.d[slot]) = (value.a, value.b, value.c, value.d);
+        }
+        store
+    }
+
     /// The entry at row 0, column 0.
     pub fn corner(&self) -> Entry {
         let mut reference = self.root;
@@ -123,10 +135,7 @@ impl Builder {
 
     /// Builds the identity.
     pub fn put_identity(&mut self, qubits: u8) {
-        let mut below = self.value(Entry {
-            d: 1,
-            ..Entry::default()
-        });
+        let mut below = self.value(Entry::new(0, 0, 0, 1));
         let zero = self.value(Entry::default());
         for qubit in (0..u32::from(qubits)).rev() {
             let row_0 = self.node(2 * qubit + 1, below, zero);

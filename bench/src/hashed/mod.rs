@@ -1,5 +1,5 @@
-//! The same step-by-step multiplication of reduced diagrams, written plainly and unverified: unique tables and computed table
-//! are the standard library's hash maps with their default hasher.
+//! The same step-by-step multiplication of reduced diagrams, written plainly and unverified: unique tables and computed
+//! table are the standard library's hash maps with their default hasher. Of the binding only plain types are used.
 
 mod diagram;
 mod search;
@@ -8,22 +8,15 @@ mod step;
 pub use diagram::Diagram;
 
 use crate::circuit::{Circuit, Code, Gate};
-use crate::report::{Report, Verdict};
+use crate::verdict::{NO_ROOM, OUTSIDE_WIDTH};
 use diagram::Builder;
+use gannetrope::{Limits, Refusal, Report, Verdict};
 use step::{Action, ComputedTable, Side};
-
-/// What a run may use.
-#[derive(Clone, Copy)]
-pub struct Limits {
-    pub width: u32,
-    pub nodes: usize,
-    pub values: usize,
-}
 
 /// What a run came to, and how large its diagrams were.
 pub struct Judged {
     pub report: Report,
-    /// The miter's reduced diagram, unless the report is a refusal.
+    /// The miter's reduced diagram; empty if the report is a refusal.
     pub diagram: Diagram,
     pub work: Work,
 }
@@ -54,16 +47,11 @@ pub fn judge(first: &[u8], second: &[u8], schedule: &[u8], limits: Limits) -> Ju
     let first = Circuit::decode(first).expect("list 1 is well formed");
     let second = Circuit::decode(second).expect("list 2 is well formed");
     let mut run = Run::new(first.qubits, limits);
-    let end = run.take_all(&first.gates, &second.gates, schedule);
-    let report = match end {
-        Ok(()) => run.report(),
-        Err(number) => Report::refused_step(number, run.steps),
+    let (report, diagram) = match run.take_all(&first.gates, &second.gates, schedule) {
+        Ok(()) => (run.report(), run.miter),
+        Err(number) => (Report::refused(Refusal::Step { number, steps: run.steps }), Diagram::default()),
     };
-    Judged {
-        report,
-        diagram: run.miter,
-        work: run.work,
-    }
+    Judged { report, diagram, work: run.work }
 }
 
 struct Run {
@@ -74,8 +62,8 @@ struct Run {
     /// Where the next product is built.
     builder: Builder,
     computed: ComputedTable,
-    exponent: usize,
-    steps: usize,
+    exponent: u32,
+    steps: u32,
     work: Work,
 }
 
@@ -94,7 +82,7 @@ impl Run {
     }
 
     /// Takes every step, or gives the number of the refusal that stops the run.
-    fn take_all(&mut self, first: &[Gate], second: &[Gate], schedule: &[u8]) -> Result<(), u64> {
+    fn take_all(&mut self, first: &[Gate], second: &[Gate], schedule: &[u8]) -> Result<(), u32> {
         self.builder.put_identity(self.qubits);
         self.work.see(&self.builder.diagram);
         self.accept()?;
@@ -109,31 +97,25 @@ impl Run {
         Ok(())
     }
 
-    fn take(&mut self, gate: Gate, side: Side) -> Result<(), u64> {
+    fn take(&mut self, gate: Gate, side: Side) -> Result<(), u32> {
         let action = Action::new(gate, side);
         self.builder.clear();
-        let inside = step::multiply(
-            &action,
-            &self.miter,
-            self.limits.width,
-            &mut self.computed,
-            &mut self.builder,
-        );
+        let inside = step::multiply(&action, &self.miter, self.limits.width, &mut self.computed, &mut self.builder);
         self.work.see_product(&self.builder.diagram);
         if !inside {
-            return Err(13);
+            return Err(OUTSIDE_WIDTH);
         }
         self.accept()?;
         self.steps += 1;
-        self.exponent += usize::from(gate.code == Code::H);
+        self.exponent += u32::from(gate.code == Code::H);
         Ok(())
     }
 
     /// What was built becomes the miter, if it is within the limits.
-    fn accept(&mut self) -> Result<(), u64> {
+    fn accept(&mut self) -> Result<(), u32> {
         let built = &mut self.builder.diagram;
         if built.nodes.len() > self.limits.nodes || built.values.len() > self.limits.values {
-            return Err(14);
+            return Err(NO_ROOM);
         }
         std::mem::swap(&mut self.miter, built);
         Ok(())
@@ -143,19 +125,14 @@ impl Run {
         let corner = self.miter.corner();
         let verdict = match search::forbidding_place(&self.miter, self.qubits) {
             None => Verdict::Equal { factor: corner },
-            Some(place) => Verdict::Different {
-                row: place.row,
-                column: place.column,
-                entry: place.entry,
-                corner,
-            },
+            Some(place) => Verdict::Different { row: place.row, column: place.column, entry: place.entry, corner },
         };
         Report {
             verdict,
-            exponent: self.exponent as u64,
-            steps: self.steps as u64,
-            nodes: self.miter.nodes.len() as u64,
-            values: self.miter.values.len() as u64,
+            exponent: self.exponent,
+            steps: self.steps,
+            nodes: self.miter.nodes.len() as u32,
+            values: self.miter.values.len() as u32,
         }
     }
 }

@@ -1,30 +1,20 @@
 //! The verdict: the lowest place that forbids equality, if there is one.
 
 use super::diagram::{Diagram, Reference};
-use crate::report::Entry;
+use gannetrope::Entry;
 use std::collections::HashSet;
 
 /// A row, a column, and the entry there.
 pub struct Place {
-    pub row: u64,
-    pub column: u64,
+    pub row: u32,
+    pub column: u32,
     pub entry: Entry,
 }
 
 /// The lowest place that is off the diagonal and not zero, or on it and unlike the corner.
 pub fn forbidding_place(diagram: &Diagram, qubits: u8) -> Option<Place> {
-    let mut search = Search {
-        diagram,
-        qubits,
-        corner: diagram.corner(),
-        clean: HashSet::new(),
-    };
-    search.on_diagonal(Block {
-        reference: diagram.root,
-        qubit: 0,
-        row: 0,
-        column: 0,
-    })
+    let mut search = Search { diagram, qubits, corner: diagram.corner(), clean: HashSet::new() };
+    search.on_diagonal(Block { reference: diagram.root, qubit: 0, row: 0, column: 0 })
 }
 
 /// A part of the matrix: the bits of the qubits before `qubit` are chosen.
@@ -32,8 +22,8 @@ pub fn forbidding_place(diagram: &Diagram, qubits: u8) -> Option<Place> {
 struct Block {
     reference: Reference,
     qubit: u8,
-    row: u64,
-    column: u64,
+    row: u32,
+    column: u32,
 }
 
 /// The row bit and the column bit of a qubit, lowest place first.
@@ -69,7 +59,8 @@ impl Search<'_> {
         None
     }
 
-    /// The first entry that is not zero. In a reduced diagram only the zero value has none, so the search never turns back.
+    /// The first entry that is not zero. In a reduced diagram only the zero value has none, so the search never turns
+    /// back.
     fn off_diagonal(&self, block: Block) -> Option<Place> {
         if block.qubit == self.qubits {
             return self.place_unlike(Entry::default(), block);
@@ -77,9 +68,7 @@ impl Search<'_> {
         if self.diagram.is_value(block.reference, Entry::default()) {
             return None;
         }
-        QUARTERS.iter().find_map(|&(row_bit, column_bit)| {
-            self.off_diagonal(self.quarter(block, row_bit, column_bit))
-        })
+        QUARTERS.iter().find_map(|&(row_bit, column_bit)| self.off_diagonal(self.quarter(block, row_bit, column_bit)))
     }
 
     fn quarter(&self, block: Block, row_bit: bool, column_bit: bool) -> Block {
@@ -88,17 +77,13 @@ impl Search<'_> {
         Block {
             reference: self.diagram.cofactor(row, level + 1, column_bit),
             qubit: block.qubit + 1,
-            row: 2 * block.row + u64::from(row_bit),
-            column: 2 * block.column + u64::from(column_bit),
+            row: 2 * block.row + u32::from(row_bit),
+            column: 2 * block.column + u32::from(column_bit),
         }
     }
 
     fn place_unlike(&self, wanted: Entry, block: Block) -> Option<Place> {
         let entry = self.diagram.value(block.reference);
-        (entry != wanted).then_some(Place {
-            row: block.row,
-            column: block.column,
-            entry,
-        })
+        (entry != wanted).then_some(Place { row: block.row, column: block.column, entry })
     }
 }

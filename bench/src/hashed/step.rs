@@ -1,8 +1,8 @@
 //! One step: the product of a diagram and a gate, by a walk that goes low before high.
 
-use super::diagram::{Builder, Diagram, Reference, PAST_ALL};
+use super::diagram::{Builder, Diagram, PAST_ALL, Reference};
 use crate::circuit::{Code, Gate};
-use crate::report::Entry;
+use gannetrope::Entry;
 use std::collections::HashMap;
 use std::ops::RangeInclusive;
 
@@ -39,35 +39,20 @@ enum Effect {
 impl Action {
     pub fn new(gate: Gate, side: Side) -> Action {
         let level = |qubit: u8| 2 * u32::from(qubit) + u32::from(side == Side::Right);
-        let mut sites = vec![Site {
-            level: level(gate.target),
-            is_target: true,
-        }];
-        sites.extend(gate.control.map(|control| Site {
-            level: level(control),
-            is_target: false,
-        }));
+        let mut sites = vec![Site { level: level(gate.target), is_target: true }];
+        sites.extend(gate.control.map(|control| Site { level: level(control), is_target: false }));
         sites.sort_by_key(|site| site.level);
         let code = match side {
             Side::Left => gate.code,
             Side::Right => gate.code.inverse(),
         };
-        Action {
-            sites,
-            effect: effect(code, side),
-        }
+        Action { sites, effect: effect(code, side) }
     }
 }
 
 fn effect(code: Code, side: Side) -> Effect {
-    let diagonal = |power| Effect::Turn {
-        flips: false,
-        powers: [0, power],
-    };
-    let flip = |powers| Effect::Turn {
-        flips: true,
-        powers,
-    };
+    let diagonal = |power| Effect::Turn { flips: false, powers: [0, power] };
+    let flip = |powers| Effect::Turn { flips: true, powers };
     match code {
         Code::X | Code::Cnot => flip([0, 0]),
         Code::Y => flip(match side {
@@ -93,7 +78,8 @@ pub struct State {
 
 #[derive(Clone, Copy, PartialEq, Eq, Hash)]
 enum Mode {
-    /// The gate's sites from this one on are still to come: if every control among them is 1, y acted on and turned; else x.
+    /// The gate's sites from this one on are still to come: if every control among them is 1, y acted on and turned;
+    /// else x.
     Acting { site: u8, power: u8 },
     /// y times a power of w8; x is y.
     Turned { power: u8 },
@@ -115,19 +101,8 @@ pub fn multiply(
 ) -> bool {
     computed.clear();
     let half = 1i64 << (width - 1);
-    let mut walk = Walk {
-        action,
-        source,
-        range: -half..=half - 1,
-        computed,
-        builder,
-        inside: true,
-    };
-    let root = walk.answer(State {
-        x: source.root,
-        y: source.root,
-        mode: Mode::Acting { site: 0, power: 0 },
-    });
+    let mut walk = Walk { action, source, range: -half..=half - 1, computed, builder, inside: true };
+    let root = walk.answer(State { x: source.root, y: source.root, mode: Mode::Acting { site: 0, power: 0 } });
     walk.builder.diagram.root = root;
     walk.inside
 }
@@ -196,11 +171,7 @@ impl Walk<'_> {
                 let power = (power + powers[usize::from(bit)]) % 8;
                 self.past_site(x, y_at(bit ^ flips), site, power)
             }
-            _ => State {
-                x: y_at(false),
-                y: y_at(true),
-                mode: if bit { Mode::Minus } else { Mode::Plus },
-            },
+            _ => State { x: y_at(false), y: y_at(true), mode: if bit { Mode::Minus } else { Mode::Plus } },
         }
     }
 
@@ -209,11 +180,7 @@ impl Walk<'_> {
         if usize::from(site) == self.action.sites.len() {
             return turned(y, power);
         }
-        State {
-            x,
-            y,
-            mode: Mode::Acting { site, power },
-        }
+        State { x, y, mode: Mode::Acting { site, power } }
     }
 
     /// The value of a state with no question left; outside the width it is noted, and does not matter.
@@ -234,11 +201,7 @@ impl Walk<'_> {
 }
 
 fn turned(reference: Reference, power: u8) -> State {
-    State {
-        x: reference,
-        y: reference,
-        mode: Mode::Turned { power },
-    }
+    State { x: reference, y: reference, mode: Mode::Turned { power } }
 }
 
 fn wide(entry: Entry) -> [i64; 4] {

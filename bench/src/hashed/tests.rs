@@ -1,7 +1,7 @@
 //! The paper's circuits to try.
 
 use super::*;
-use crate::schedule::proportional;
+use crate::lent::LARGEST;
 
 const X: u8 = 0;
 const Y: u8 = 1;
@@ -10,15 +10,10 @@ const H: u8 = 3;
 const S: u8 = 4;
 const T: u8 = 6;
 
-const AMPLE: Limits = Limits {
-    width: 32,
-    nodes: 65_536,
-    values: 65_536,
-};
-
+/// The line of two lists, with all of the first taken before the second.
 fn line(first: &[u8], second: &[u8], limits: Limits) -> String {
-    let gates = |list: &[u8]| Circuit::decode(list).unwrap().gates.len();
-    let schedule = proportional(gates(first), gates(second));
+    let steps = |list: &[u8], byte: u8| vec![byte; Circuit::decode(list).unwrap().gates.len()];
+    let schedule = [steps(first, 0), steps(second, 1)].concat();
     judge(first, second, &schedule, limits).report.to_string()
 }
 
@@ -34,15 +29,11 @@ fn one_qubit_line(first: &[u8], second: &[u8], limits: Limits) -> String {
 }
 
 fn width(width: u32) -> Limits {
-    Limits { width, ..AMPLE }
+    Limits { width, ..LARGEST }
 }
 
 fn sizes(nodes: usize, values: usize) -> Limits {
-    Limits {
-        nodes,
-        values,
-        ..AMPLE
-    }
+    Limits { nodes, values, ..LARGEST }
 }
 
 #[test]
@@ -50,21 +41,13 @@ fn small_pairs() {
     for (first, second, expected) in [
         (&[][..], &[][..], "equal factor 0 0 0 1 exponent 0 steps 0 nodes 3 values 2"),
         (&[H, H], &[], "equal factor 0 0 0 2 exponent 2 steps 2 nodes 3 values 2"),
-        (
-            &[X],
-            &[],
-            "different row 0 column 1 entry 0 0 0 1 corner 0 0 0 0 exponent 0 steps 1 nodes 3 values 2",
-        ),
-        (
-            &[T],
-            &[S],
-            "different row 1 column 1 entry -1 0 0 0 corner 0 0 0 1 exponent 0 steps 2 nodes 3 values 3",
-        ),
+        (&[X], &[], "different row 0 column 1 entry 0 0 0 1 corner 0 0 0 0 exponent 0 steps 1 nodes 3 values 2"),
+        (&[T], &[S], "different row 1 column 1 entry -1 0 0 0 corner 0 0 0 1 exponent 0 steps 2 nodes 3 values 3"),
         (&[X, Z], &[Z, X], "equal factor 0 0 0 -1 exponent 0 steps 4 nodes 3 values 2"),
         (&[Y], &[Z, X], "equal factor 0 1 0 0 exponent 0 steps 3 nodes 3 values 2"),
         (&[Z, X], &[Y], "equal factor 0 -1 0 0 exponent 0 steps 3 nodes 3 values 2"),
     ] {
-        assert_eq!(one_qubit_line(first, second, AMPLE), expected);
+        assert_eq!(one_qubit_line(first, second, LARGEST), expected);
     }
 }
 
@@ -72,11 +55,11 @@ fn small_pairs() {
 fn two_qubits() {
     let cnot = [2, 1, 8, 0, 1];
     assert_eq!(
-        line(&cnot, &[2, 3, 3, 1, 9, 0, 1, 3, 1], AMPLE),
+        line(&cnot, &[2, 3, 3, 1, 9, 0, 1, 3, 1], LARGEST),
         "equal factor 0 0 0 2 exponent 2 steps 4 nodes 6 values 2"
     );
     assert_eq!(
-        line(&cnot, &[2, 1, 8, 1, 0], AMPLE),
+        line(&cnot, &[2, 1, 8, 1, 0], LARGEST),
         "different row 1 column 1 entry 0 0 0 0 corner 0 0 0 1 exponent 0 steps 2 nodes 9 values 2"
     );
 }
@@ -84,21 +67,15 @@ fn two_qubits() {
 #[test]
 fn widths() {
     assert_eq!(one_qubit_line(&[H, H], &[], width(2)), "refused 13 steps 1");
-    assert_eq!(
-        one_qubit_line(&[H, H], &[], width(3)),
-        "equal factor 0 0 0 2 exponent 2 steps 2 nodes 3 values 2"
-    );
+    assert_eq!(one_qubit_line(&[H, H], &[], width(3)), "equal factor 0 0 0 2 exponent 2 steps 2 nodes 3 values 2");
     assert_eq!(
         one_qubit_line(&[X, Z, X, Z, H, H], &[], width(2)),
         "equal factor 0 0 0 -2 exponent 2 steps 6 nodes 3 values 2"
     );
+    assert_eq!(one_qubit_line(&[X, Z, X, Z, H, H, Z], &[], width(2)), "refused 13 steps 6");
+    assert_eq!(one_qubit_line(&[H; 62], &[], LARGEST), "refused 13 steps 61");
     assert_eq!(
-        one_qubit_line(&[X, Z, X, Z, H, H, Z], &[], width(2)),
-        "refused 13 steps 6"
-    );
-    assert_eq!(one_qubit_line(&[H; 62], &[], AMPLE), "refused 13 steps 61");
-    assert_eq!(
-        one_qubit_line(&[H; 60], &[], AMPLE),
+        one_qubit_line(&[H; 60], &[], LARGEST),
         "equal factor 0 0 0 1073741824 exponent 60 steps 60 nodes 3 values 2"
     );
 }
@@ -107,11 +84,7 @@ fn widths() {
 fn store_sizes() {
     assert_eq!(one_qubit_line(&[], &[], sizes(2, 2)), "refused 14 steps 0");
     assert_eq!(one_qubit_line(&[T], &[], sizes(3, 2)), "refused 14 steps 0");
-    for (first, limits) in [
-        (&[][..], sizes(3, 2)),
-        (&[H, H], sizes(3, 3)),
-        (&[T], sizes(3, 3)),
-    ] {
+    for (first, limits) in [(&[][..], sizes(3, 2)), (&[H, H], sizes(3, 3)), (&[T], sizes(3, 3))] {
         assert!(!one_qubit_line(first, &[], limits).starts_with("refused"));
     }
 }
