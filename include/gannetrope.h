@@ -45,6 +45,11 @@ extern "C" {
 #define GANNETROPE_ENTRY 0  /* equal: the factor; different: the first forbidding entry */
 #define GANNETROPE_CORNER 4 /* different: the entry at row 0, column 0 */
 
+/* Bytes of stack that are enough for a call. The most that was seen in use is 967, 811,687 and 4,744,583. */
+#define GANNETROPE_STACK_REFUSED 65536 /* refused with 1 to 12, before any step */
+#define GANNETROPE_STACK_SMALL 1048576 /* N and L at most 4,096 */
+#define GANNETROPE_STACK_LARGE 8388608 /* any call */
+
 /*
  * Judges whether two gate lists are the same operator up to a factor.
  *
@@ -64,7 +69,7 @@ extern "C" {
  *
  * Returns 1 if `numbers` or `entries` is too short: then nothing was judged and nothing written.
  *
- * The call uses about 0.4 MB of stack where N and L are at most 4,096, else about 4.7 MB.
+ * Every call fits a thread with the stack that GANNETROPE_STACK_LARGE says; two kinds need less.
  */
 uint32_t gannetrope_judge(
     const uint8_t *list1, size_t list1_length,

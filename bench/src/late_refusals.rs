@@ -55,11 +55,16 @@ impl LateRefusal {
         steps.extend([last.undone(), last].repeat(times));
         Pair::of_steps(self.qubits, &steps)
     }
+
+    pub fn refused_gate(&self) -> Code {
+        self.steps[self.steps.len() - 1].gate.code
+    }
 }
 
 pub fn all() -> Vec<LateRefusal> {
     let mut refusals = vec![h_layer_then_t()];
     refusals.extend(RECIPES.map(dense));
+    refusals.extend(H_RECIPES.map(|(recipe, qubit)| dense_then_h(recipe, qubit)));
     refusals
 }
 
@@ -108,11 +113,35 @@ const RECIPES: [Recipe; 19] = [
     Recipe { qubits: 16, layers: 1, gates: (46, 46), seed: 28, nodes: 4096, values: 8 },
 ];
 
+/// Of many those on which an H after the first list, on the qubit beside the recipe, takes long against the step before.
+const H_RECIPES: [(Recipe, u8); 5] = [
+    (Recipe { qubits: 14, layers: 1, gates: (83, 0), seed: 108, nodes: 4096, values: 1024 }, 2),
+    (Recipe { qubits: 14, layers: 1, gates: (85, 0), seed: 118, nodes: 4096, values: 1024 }, 6),
+    (Recipe { qubits: 16, layers: 1, gates: (97, 0), seed: 126, nodes: 4096, values: 1024 }, 0),
+    (Recipe { qubits: 16, layers: 1, gates: (78, 0), seed: 7, nodes: 4096, values: 1024 }, 3),
+    (Recipe { qubits: 10, layers: 2, gates: (99, 0), seed: 6, nodes: 4096, values: 1024 }, 5),
+];
+
+impl Recipe {
+    fn lists(&self) -> (Circuit, Circuit) {
+        let list = |count, seed| dense_list(self.qubits, self.layers, count, &mut Random::new(seed));
+        (list(self.gates.0, self.seed), list(self.gates.1, !self.seed))
+    }
+
+    fn limits(&self) -> Limits {
+        Limits { nodes: self.nodes, values: self.values, ..Limits::default() }
+    }
+}
+
 fn dense(recipe: Recipe) -> LateRefusal {
-    let list = |count, seed| dense_list(recipe.qubits, recipe.layers, count, &mut Random::new(seed));
-    let (first, second) = (list(recipe.gates.0, recipe.seed), list(recipe.gates.1, !recipe.seed));
-    let limits = Limits { nodes: recipe.nodes, values: recipe.values, ..Limits::default() };
-    LateRefusal::new(&first, &second, limits)
+    let (first, second) = recipe.lists();
+    LateRefusal::new(&first, &second, recipe.limits())
+}
+
+fn dense_then_h(recipe: Recipe, qubit: u8) -> LateRefusal {
+    let (mut first, second) = recipe.lists();
+    first.gates.push(Gate::one(Code::H, qubit));
+    LateRefusal::new(&first, &second, recipe.limits())
 }
 
 /// How many parity networks stand between two H layers.
@@ -168,10 +197,10 @@ mod tests {
     }
 
     #[test]
-    fn no_h_is_refused() {
-        for late in all() {
-            let refused = late.steps[late.steps.len() - 1];
-            assert_ne!(refused.gate.code, Code::H, "{}", late.name());
+    fn gates_of_every_kind_are_refused() {
+        let refused: Vec<Code> = all().iter().map(LateRefusal::refused_gate).collect();
+        for code in [Code::H, Code::T, Code::Tdg, Code::Cnot] {
+            assert!(refused.contains(&code), "{code:?} in {refused:?}");
         }
     }
 

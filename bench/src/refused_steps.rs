@@ -46,18 +46,30 @@ pub fn measure(late: &LateRefusal) -> Result<Row, String> {
 /// What the columns are: `nodes` and `values` are the most that a step of the run needs, the refused one included.
 pub fn heading() -> String {
     format!(
-        "{:<11} {:>6} {:>6} {:>6} {:>5} {:>5} {:>6} {:>6} {:>10} {:>9} {:>6}",
-        "second list", "qubits", "gates", "steps", "N", "L", "nodes", "values", "refused us", "before us", "ratio"
+        "{:<11} {:>6} {:>6} {:>6} {:>7} {:>5} {:>5} {:>6} {:>6} {:>10} {:>9} {:>6}",
+        "second list",
+        "qubits",
+        "gates",
+        "steps",
+        "refused",
+        "N",
+        "L",
+        "nodes",
+        "values",
+        "refused us",
+        "before us",
+        "ratio"
     )
 }
 
 fn line(late: &LateRefusal, (first, second): (usize, usize), work: &Work, row: &Row) -> String {
     format!(
-        "{:<11} {:>6} {:>6} {:>6} {:>5} {:>5} {:>6} {:>6} {:>10.1} {:>9.1} {:>6.2}",
+        "{:<11} {:>6} {:>6} {:>6} {:>7} {:>5} {:>5} {:>6} {:>6} {:>10.1} {:>9.1} {:>6.2}",
         late.second_is,
         late.qubits,
         format!("{first}+{second}"),
         late.finished().len(),
+        format!("{:?}", late.refused_gate()),
         late.limits.nodes,
         late.limits.values,
         work.peak_nodes,

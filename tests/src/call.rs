@@ -120,7 +120,7 @@ fn same_column<T: PartialEq + std::fmt::Display>(store: &str, column: &str, foun
 }
 
 /// The call as hex and numbers.
-fn describe(call: &Call) -> String {
+pub fn describe(call: &Call) -> String {
     format!(
         "list1 {} list2 {} schedule {} w {} columns {:?} {:?}",
         hex::encode(&call.list1),

@@ -2,14 +2,19 @@
 //!
 //! With no arguments every group runs; else those named. README.md has the groups and the variables.
 
+mod c_program;
 mod call;
 mod circuits;
 mod dense;
 mod groups;
 mod hex;
 mod json;
+mod limited;
+mod markdown;
+mod on_thread;
 mod program;
 mod random;
+mod shell;
 mod tally;
 
 use std::path::{Path, PathBuf};
@@ -33,19 +38,27 @@ fn run_groups() -> ExitCode {
     let seed = env::var("GANNETROPE_SEED").map_or(1, |seed| seed.parse().expect("a seed is a number"));
     println!("seed {seed}");
 
-    let groups: [Group; 12] = [
+    let groups: [Group; 20] = [
         ("dense", Box::new(|tally| groups::dense_itself::run(tally, seed))),
         ("paper", Box::new(groups::paper::run)),
         ("refusals", Box::new(|tally| groups::refusals::run(tally, seed))),
         ("damage", Box::new(|tally| groups::damage::run(tally, seed))),
         ("random", Box::new(|tally| groups::random_pairs::run(tally, seed))),
         ("answer", Box::new(|tally| groups::one_answer::run(tally, seed))),
+        ("widths", Box::new(groups::widths::run)),
+        ("places", Box::new(groups::places::run)),
         ("qubits", Box::new(|tally| groups::many_qubits::run(tally, seed))),
+        ("slow", Box::new(|tally| groups::slow::run(tally, home, &library, &vectors, &program, seed))),
+        ("stack", Box::new(|tally| groups::stack::run(tally, home, &library, &program, seed))),
         ("binding", Box::new(|tally| groups::binding::run(tally, seed))),
         ("header", Box::new(|tally| groups::header::run(tally, home, &library))),
         ("documentation", Box::new(|tally| groups::documentation::run(tally, home))),
         ("vectors", Box::new(|tally| groups::vectors::run(tally, &vectors, &program))),
         ("verdict", Box::new(|tally| groups::verdict::run(tally, &program, seed))),
+        ("judge", Box::new(|tally| groups::judge::run(tally, home, &program, seed))),
+        ("examples", Box::new(|tally| groups::examples::run(tally, home, seed))),
+        ("readme", Box::new(|tally| groups::readme::run(tally, home, &library, &program))),
+        ("map", Box::new(|tally| groups::map::run(tally, home))),
     ];
     run(&groups)
 }

@@ -68,7 +68,7 @@ impl Program {
 }
 
 /// Runs a command while something feeds its input.
-fn run(command: &mut Command, feed: impl FnOnce(&mut dyn Write) -> io::Result<()> + Send) -> Result<Ended, String> {
+pub fn run(command: &mut Command, feed: impl FnOnce(&mut dyn Write) -> io::Result<()> + Send) -> Result<Ended, String> {
     let mut child = start(command)?;
     let stdin = child.stdin.take();
     let mut stdout = child.stdout.take().expect("a pipe");

@@ -6,7 +6,8 @@ unsafe extern "C" {
     ///
     /// # Safety
     /// Every pointer is aligned, not null and good for its length; what is lent for writing overlaps nothing else;
-    /// about 0.4 MB of stack is free, or 4.7 MB if a column is longer than 4,096.
+    /// enough stack is free: 64 KB for a call that is refused before its run, 1 MB if no column is longer than 4,096,
+    /// else 8 MB.
     pub fn gannetrope_judge(
         list1: *const u8, list1_length: usize,
         list2: *const u8, list2_length: usize,

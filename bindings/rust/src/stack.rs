@@ -7,8 +7,8 @@ use std::{ptr, thread};
 /// The stack of the threads made here; what is not touched costs nothing.
 const LENGTH: usize = 16 << 20;
 
-/// What a call is sure to find free: it uses up to 4.7 MB.
-const NEEDED: usize = 6 << 20;
+/// What a call is sure to find free, as the header asks; it uses up to 4.8 MB.
+const NEEDED: usize = 8 << 20;
 
 thread_local! {
     /// Where the stack begins, on the threads made here.

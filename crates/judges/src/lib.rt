@@ -113,7 +113,7 @@ fn judge_in(
     endings::report(level, low, high, a, b, c, d, n, ended)
 }
 
-// Stores of up to 4,096 nodes and values: scratch of 393,216 bytes.
+// Stores of up to 4,096 nodes and values: scratch of 786,432 bytes.
 fn judge_small(
     u: &[u8],
     v: &[u8],
@@ -152,11 +152,11 @@ fn judge_small(
     let mut terminals = [0; 16384];
     let mut node_index = [0; 12288];
     let mut value_index = [0; 12288];
-    let mut memo = [0; 57344];
+    let mut memo = [0; 155648];
     let sizes = Sizes {
         width,
         heads: 8192,
-        slots: 8192,
+        slots: 32768,
     };
     let room = 4 * a.len();
     judge_in(

@@ -7,7 +7,7 @@ use Prim.Native.Nat.{ℕ, _+_, _*_, max}
 use native.Mathlib.Omega.{arith}
 use lib.ListN.{length, getD}
 use Rattle.gates.specs.Gate.{Gate}
-use Rattle.gates.specs.Rule.{target}
+use Rattle.gates.specs.Rule.{gate-rule, target}
 use Rattle.diagrams.specs.Diagram.{levels}
 use Rattle.stores.specs.Columns.{zeroed}
 use Rattle.diagrams.proofs.Places.{levels-double}
@@ -18,41 +18,41 @@ use Rattle.tables.specs.Table.{table-size, cleared}
 use Rattle.plans.specs.declared.Action.{Action}
 use Rattle.plans.specs.declared.Sizes.{Sizes}
 use Rattle.plans.specs.declared.Used.{Used}
-use Rattle.plans.specs.Layout.{Acts, laid-out, planned, Cleared}
+use Rattle.plans.specs.Layout.{Acts, paired, laid-out, planned, Cleared}
 
 -- ---- the plan's slots
 
 -- the numbers laid out, from slot 23 on
-pub record Slots (plan : List ℕ) (zero levels : ℕ) (sizes : Sizes) (used : Used) : Type 0 where
+pub record Slots (plan : List ℕ) (mixes : Bool) (zero levels : ℕ) (sizes : Sizes) (used : Used) : Type 0 where
   pub of-zero : getD plan 23 0 ≡ zero
   pub of-node-heads : getD plan 24 0 ≡ table-size (used .nodes) 64 (sizes .heads)
   pub of-value-heads : getD plan 25 0 ≡ table-size (used .values) 16 (sizes .heads)
-  pub of-slots : getD plan 26 0 ≡ table-size (used .nodes) 256 (sizes .slots)
+  pub of-slots : getD plan 26 0 ≡ table-size (paired mixes (used .nodes)) 256 (sizes .slots)
   pub of-width : getD plan 27 0 ≡ sizes .width
   pub of-levels : getD plan 28 0 ≡ levels
   pub of-span : getD plan 29 0 ≡ 2 * max (used .nodes) (used .values)
   pub of-nodes : getD plan 30 0 ≡ used .nodes
   pub of-values : getD plan 31 0 ≡ used .values
 
-module _ (zero levels : ℕ) (sizes : Sizes) (used : Used) (l : List ℕ) (size : length l ≡ 32) where
+module _ (mixes : Bool) (zero levels : ℕ) (sizes : Sizes) (used : Used) (l : List ℕ) (size : length l ≡ 32) where
   -- the last write first
   abbrev writes : List (ℕ × ℕ)
   writes =
       (31, used .values) ∷ (30, used .nodes) ∷ (29, 2 * max (used .nodes) (used .values)) ∷ (28, levels) ∷ (27, sizes .width)
-      ∷ (26, table-size (used .nodes) 256 (sizes .slots)) ∷ (25, table-size (used .values) 16 (sizes .heads))
+      ∷ (26, table-size (paired mixes (used .nodes)) 256 (sizes .slots)) ∷ (25, table-size (used .values) 16 (sizes .heads))
       ∷ (24, table-size (used .nodes) 64 (sizes .heads)) ∷ (23, zero) ∷ []
 
-  laid-written : laid-out zero levels sizes used l ≡ written writes l
+  laid-written : laid-out mixes zero levels sizes used l ≡ written writes l
   unfolding laid-out
   laid-written = refl
 
-  slot-laid : (j : ℕ) → getD (laid-out zero levels sizes used l) j 0 ≡ read writes j (getD l j 0)
+  slot-laid : (j : ℕ) → getD (laid-out mixes zero levels sizes used l) j 0 ≡ read writes j (getD l j 0)
   slot-laid j = ap (λ (m : List ℕ). getD m j 0) laid-written ∙ read-written writes l j (ap (λ (m : ℕ). all-below m writes) size ∙ refl)
 
-  length-laid : length (laid-out zero levels sizes used l) ≡ 32
+  length-laid : length (laid-out mixes zero levels sizes used l) ≡ 32
   length-laid = ap length laid-written ∙ length-written writes l ∙ size
 
-  slots-laid : Slots (laid-out zero levels sizes used l) zero levels sizes used
+  slots-laid : Slots (laid-out mixes zero levels sizes used l) mixes zero levels sizes used
   slots-laid = record {
     of-zero = slot-laid 23;
     of-node-heads = slot-laid 24;
@@ -66,18 +66,18 @@ module _ (zero levels : ℕ) (sizes : Sizes) (used : Used) (l : List ℕ) (size 
   }
 
 -- what the writes come to
-pub lays-out : (zero levels : ℕ) (sizes : Sizes) (used : Used) (l : List ℕ) {h k s m : ℕ}
-    → h ≡ table-size (used .nodes) 64 (sizes .heads) → k ≡ table-size (used .values) 16 (sizes .heads) → s ≡ table-size (used .nodes) 256 (sizes .slots)
-    → m ≡ max (used .nodes) (used .values)
+pub lays-out : (mixes : Bool) (zero levels : ℕ) (sizes : Sizes) (used : Used) (l : List ℕ) {h k p s m : ℕ}
+    → h ≡ table-size (used .nodes) 64 (sizes .heads) → k ≡ table-size (used .values) 16 (sizes .heads)
+    → p ≡ paired mixes (used .nodes) → s ≡ table-size p 256 (sizes .slots) → m ≡ max (used .nodes) (used .values)
     → written ((31, used .values) ∷ (30, used .nodes) ∷ (29, 2 * m) ∷ (28, levels) ∷ (27, sizes .width)
     ∷ (26, s) ∷ (25, k) ∷ (24, h) ∷ (23, zero) ∷ []) l
-    ≡ laid-out zero levels sizes used l
+    ≡ laid-out mixes zero levels sizes used l
 unfolding laid-out
-lays-out zero levels sizes used l of-h of-k of-s of-m = rw (of-h, of-k, of-s, of-m) refl
+lays-out mixes zero levels sizes used l of-h of-k of-p of-s of-m = rw (of-h, of-k, of-s, of-p, of-m) refl
 
 -- a gate's plan keeps them
-slots-kept : {l l′ : List ℕ} {zero levels : ℕ} {sizes : Sizes} {used : Used} → Keeps l l′
-    → Slots l zero levels sizes used → Slots l′ zero levels sizes used
+slots-kept : {l l′ : List ℕ} {mixes : Bool} {zero levels : ℕ} {sizes : Sizes} {used : Used} → Keeps l l′
+    → Slots l mixes zero levels sizes used → Slots l′ mixes zero levels sizes used
 slots-kept keeps slots = record {
   of-zero = keeps .past 23 (omega arith) ∙ slots .of-zero;
   of-node-heads = keeps .past 24 (omega arith) ∙ slots .of-node-heads;
@@ -92,28 +92,29 @@ slots-kept keeps slots = record {
 
 module _ (action : Action) (n : ℕ) (sizes : Sizes) (used : Used) (zero : ℕ) (l : List ℕ) where
   abbrev laid : List ℕ
-  laid = laid-out zero (2 * n) sizes used l
+  laid = laid-out (action .rule .mixes) zero (2 * n) sizes used l
 
   -- what planning comes to
-  pub plans : {zero′ : ℕ} {laid′ l′ : List ℕ} → zero′ ≡ zero → laid′ ≡ laid-out zero′ (2 * n) sizes used l
+  pub plans : {zero′ : ℕ} {laid′ l′ : List ℕ} → zero′ ≡ zero → laid′ ≡ laid-out (action .rule .mixes) zero′ (2 * n) sizes used l
       → l′ ≡ prepared (action .rule) (action .side) (action .control) (action .target) laid′ → l′ ≡ planned action n sizes used zero l
   unfolding planned
   plans of-zero is p =
-      p ∙ ap (prepared (action .rule) (action .side) (action .control) (action .target)) (is ∙ ap (λ (z : ℕ). laid-out z (2 * n) sizes used l) of-zero)
+      p ∙ ap (prepared (action .rule) (action .side) (action .control) (action .target)) (is ∙ ap (λ (z : ℕ). laid-out (action .rule .mixes) z (2 * n) sizes used l) of-zero)
 
-  pub slots-planned : length l ≡ 32 → Slots (planned action n sizes used zero l) zero (2 * n) sizes used
+  pub slots-planned : length l ≡ 32 → Slots (planned action n sizes used zero l) (action .rule .mixes) zero (2 * n) sizes used
   unfolding planned
   slots-planned size = slots-kept
-      (prepared-keeps (action .rule) (action .side) (action .control) (action .target) laid (length-laid zero (2 * n) sizes used l size))
-      (slots-laid zero (2 * n) sizes used l size)
+      (prepared-keeps (action .rule) (action .side) (action .control) (action .target) laid (length-laid (action .rule .mixes) zero (2 * n) sizes used l size))
+      (slots-laid (action .rule .mixes) zero (2 * n) sizes used l size)
 
   -- the plan is one for the gate
   pub planned-for : {right : Bool} {g : Gate} → length l ≡ 32 → Acts n right g action → PlanFor n right g (plan-of (planned action n sizes used zero l))
   unfolding planned
   planned-for {right} {g} size acts =
+      let mixes = gate-rule g .mixes in
       rw (acts .rule, acts .side, acts .target)
-      (prepared-plan n right laid (length-laid zero (2 * n) sizes used l size)
-      (slots-laid zero (2 * n) sizes used l size .of-levels ∙ sym (levels-double n)) g (action .control) (acts .fits) (acts .control))
+      (prepared-plan n right (laid-out mixes zero (2 * n) sizes used l) (length-laid mixes zero (2 * n) sizes used l size)
+      (slots-laid mixes zero (2 * n) sizes used l size .of-levels ∙ sym (levels-double n)) g (action .control) (acts .fits) (acts .control))
 
 -- ---- the tables
 

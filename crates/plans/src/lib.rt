@@ -18,7 +18,7 @@ ghost use mathlib.Core.Path.{_≡_};
 ghost use Prim.Native.Nat.{_<_, _≤_, max};
 ghost use Rattle.stores.specs.Columns.{entries-of, zero-ref, ValueColumns};
 ghost use Rattle.plans.specs.Prepare.{as-number, side-phases, with-action, with-stage, with-stages, prepared};
-ghost use Rattle.plans.specs.Layout.{laid-out, planned, Planning, Roomy, Cleared};
+ghost use Rattle.plans.specs.Layout.{paired, laid-out, planned, Planning, Roomy, Cleared};
 
 // The slots of the plan that hold the counts of the source's nodes and values.
 const SOURCE_NODES: usize = 30;
@@ -140,15 +140,24 @@ fn wide(x: u32) -> usize
     x as usize
 }
 
+// How many nodes the computed table is sized for: pairs of references, which a gate that mixes makes, are several to a node.
+fn paired(mixes: bool, nodes: u32) -> u32
+    requires { ⌜ nodes ≤ 65536 ⌝ }
+    ensures { λ r. ⌜ r ≡ paired mixes nodes ⌝ }
+{
+    if mixes { 4 * nodes } else { nodes }
+}
+
 // What a plan holds beside its gate: the source's zero and counts, the sizes of the tables, the width and the levels.
-fn lay_out(zero: u32, levels: u32, sizes: Sizes, used: Used, plan: &mut [u32; 32])
+fn lay_out(mixes: bool, zero: u32, levels: u32, sizes: Sizes, used: Used, plan: &mut [u32; 32])
     requires { ⌜ (used .nodes ≤ 65536) × (used .values ≤ 65536) ⌝ }
-    ensures { λ _. ⌜ now (plan .exit) ≡ laid-out zero levels sizes used (now (plan .entry)) ⌝ }
+    ensures { λ _. ⌜ now (plan .exit) ≡ laid-out mixes zero levels sizes used (now (plan .entry)) ⌝ }
 {
     plan[ZERO] = zero;
     plan[NODE_HEADS] = tables::table_size(used.nodes, LEAST_NODE_HEADS, sizes.heads);
     plan[VALUE_HEADS] = tables::table_size(used.values, LEAST_VALUE_HEADS, sizes.heads);
-    plan[SLOTS] = tables::table_size(used.nodes, LEAST_SLOTS, sizes.slots);
+    let pairs = paired(mixes, used.nodes);
+    plan[SLOTS] = tables::table_size(pairs, LEAST_SLOTS, sizes.slots);
     plan[WIDTH] = sizes.width;
     plan[LEVELS] = levels;
     plan[SPAN] = 2 * larger(used.nodes, used.values);
@@ -174,14 +183,9 @@ pub fn plan_step(
         (now (a .entry)) (now (b .entry)) (now (c .entry)) (now (d .entry)) (used .values))) (now (plan .entry)) ⌝ }
 {
     let zero = stores::zero_of(a, b, c, d, used.values);
-    lay_out(zero, 2 * n, sizes, used, plan);
-    prepare(
-        action.rule,
-        action.side,
-        action.control,
-        action.target,
-        plan,
-    );
+    let rule = action.rule;
+    lay_out(rule.mixes, zero, 2 * n, sizes, used, plan);
+    prepare(rule, action.side, action.control, action.target, plan);
 }
 
 // Empty tables, as large as the plan says, for so many nodes and values.

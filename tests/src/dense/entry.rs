@@ -28,6 +28,11 @@ impl Entry {
         *self == ZERO
     }
 
+    /// The four numbers.
+    pub fn numbers(&self) -> [i128; 4] {
+        self.0
+    }
+
     /// The least width in bits that holds all four numbers.
     pub fn width(&self) -> u32 {
         self.0.iter().map(|&number| width(number)).max().expect("four numbers")

@@ -147,7 +147,7 @@ pub fn verdict_line(input: &[u8]) -> String {
 }
 
 /// The two lists of an input; refused 3 or 4.
-fn split(input: &[u8]) -> Result<(&[u8], &[u8]), u32> {
+pub fn split(input: &[u8]) -> Result<(&[u8], &[u8]), u32> {
     let (length, bytes) = read_number(input)?;
     input[bytes..].split_at_checked(length as usize).ok_or(3)
 }

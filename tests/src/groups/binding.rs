@@ -10,6 +10,9 @@ use crate::groups::random_pairs::{random_pair, random_schedule};
 use crate::random::Random;
 use crate::tally::{Checked, Tally, alike};
 
+/// Every schedule of up to so many gates in each list is looked at.
+const FEW_GATES: usize = 20;
+
 pub fn run(tally: &mut Tally, seed: u64) {
     for qubits in 1..=4 {
         for pair in 0..10 {
@@ -108,9 +111,8 @@ fn on_a_short_stack() -> Checked {
 
 /// The schedule maker against the definition, and its two refusals.
 fn schedules(tally: &mut Tally) {
-    for (m, p) in
-        [(0, 0), (0, 3), (3, 0), (2, 4), (5, 5), (7, 3), (100, 1), (1, 100), (4096, 4096), (4096, 1), (1, 4096)]
-    {
+    let few = (0..=FEW_GATES).flat_map(|m| (0..=FEW_GATES).map(move |p| (m, p)));
+    for (m, p) in few.chain([(100, 1), (1, 100), (4096, 4096), (4096, 1), (1, 4096)]) {
         tally.case(&format!("schedule of {m} and {p}"), || check_schedule(m, p));
     }
     let refusals =

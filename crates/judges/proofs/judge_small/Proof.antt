@@ -36,7 +36,7 @@ judge-in-requires c κs =
     .before .before .before .before .before .before .before .before .before .before in
     let k = 4 * length (s .args .a .now) in (
       s .pre .0,
-      array-scratch 4096 12288 57344 _
+      array-scratch 4096 12288 155648 _
           (record {
             few = omega arith;
             some-heads = omega arith;
@@ -57,7 +57,7 @@ judge-small-spec =
     terminals-long
     (λ c. sym (length-replicate {A = ℕ} 12288 0))
     (λ c. sym (length-replicate {A = ℕ} 12288 0))
-    (λ c. sym (length-replicate {A = ℕ} 57344 0))
+    (λ c. sym (length-replicate {A = ℕ} 155648 0))
     judge-in-requires
     (λ c. inner c .judge-in .kept .1 .1 .1 .1 .1 .1 .0)
     (λ c. inner c .judge-in .kept .1 .1 .1 .1 .1 .1 .1 .0)

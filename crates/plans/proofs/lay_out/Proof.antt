@@ -20,6 +20,9 @@ table-size-requires-2 c κs = search needs
 element-write-plan-3 : tie.Need-element-write-plan-3
 element-write-plan-3 c = search needs
 
+paired-requires : tie.Need-paired-requires
+paired-requires c κs = search needs
+
 table-size-requires-3 : tie.Need-table-size-requires-3
 table-size-requires-3 c κs = search needs
 
@@ -51,9 +54,10 @@ returns : tie.Need-returns
 returns c =
     let m = c in
     let s = m .before in
-    let k = s .before in
+    let p = s .before in
+    let k = p .before in
     let h = k .before in
-    lays-out _ _ _ _ _ (h .table-size .ensures) (k .table-size2 .ensures) (s .table-size3 .ensures) (m .larger .ensures)
+    lays-out _ _ _ _ _ _ (h .table-size .ensures) (k .table-size2 .ensures) (p .paired .ensures) (s .table-size3 .ensures) (m .larger .ensures)
 
 pub lay-out-spec : {M : Type 1} → statement M
 lay-out-spec =
@@ -64,6 +68,7 @@ lay-out-spec =
     element-write-plan-2
     table-size-requires-2
     element-write-plan-3
+    paired-requires
     table-size-requires-3
     element-write-plan-4
     element-write-plan-5

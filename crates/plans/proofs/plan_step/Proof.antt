@@ -20,7 +20,7 @@ prepare-requires c κs = search needs
 returns : tie.Need-returns
 returns c =
     let l = c .before .before in
-    let z = l .before .before in
+    let z = l .before .before .before in
     let e = z .before in
     plans (e .args .action) (e .args .n) (e .args .sizes) (e .args .used) _ _ (z .zero-of .ensures) (l .lay-out .ensures)
     (c .prepare .ensures)
