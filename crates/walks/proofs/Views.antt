@@ -1,4 +1,4 @@
--- What the walkers share: reading a call's answer off the source, and the two ways to an answer. Assumes nothing.
+-- What the walkers share: reading a call's answer off the source, the two ways to an answer, and their measures. Assumes nothing.
 use mathlib.Core.Path.{_≡_}
 use mathlib.Core.Bool.{Bool}
 use mathlib.Core.Logic.{_⊎_, inl, inr}

@@ -16,8 +16,8 @@ use crate::program::Program;
 use crate::random::Random;
 use crate::tally::{Checked, Tally, alike};
 
-/// The verdict program's own stack, in kilobytes.
-const FOR_PROGRAM: u32 = 1024;
+/// The verdict program's stack, in kilobytes: what README says, and room for its environment.
+const FOR_PROGRAM: u32 = 1280;
 
 const QUBITS: u32 = 16;
 
