@@ -99,7 +99,8 @@ module _ (action : Action) (n : ℕ) (sizes : Sizes) (used : Used) (zero : ℕ) 
       → l′ ≡ prepared (action .rule) (action .side) (action .control) (action .target) laid′ → l′ ≡ planned action n sizes used zero l
   unfolding planned
   plans of-zero is p =
-      p ∙ ap (prepared (action .rule) (action .side) (action .control) (action .target)) (is ∙ ap (λ (z : ℕ). laid-out (action .rule .mixes) z (2 * n) sizes used l) of-zero)
+      p ∙ ap (prepared (action .rule) (action .side) (action .control) (action .target))
+      (is ∙ ap (λ (z : ℕ). laid-out (action .rule .mixes) z (2 * n) sizes used l) of-zero)
 
   pub slots-planned : length l ≡ 32 → Slots (planned action n sizes used zero l) (action .rule .mixes) zero (2 * n) sizes used
   unfolding planned
