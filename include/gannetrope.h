@@ -1,7 +1,7 @@
 /*
  * Gannetrope: exact, proved equivalence of Clifford+T circuits.
  *
- * The static library is target/staticlib/libcapi.a, for x86-64 Linux; `rt staticlib capi` makes it. Both functions are
+ * The static library is target/staticlib/libcapi.a, for x86-64 Linux; `rt staticlib capi` makes it. Its functions are
  * proved to meet their contracts for every input that the rules below allow.
  *
  * Rules for every pair of a pointer and a length:
@@ -45,7 +45,7 @@ extern "C" {
 #define GANNETROPE_ENTRY 0  /* equal: the factor; different: the first forbidding entry */
 #define GANNETROPE_CORNER 4 /* different: the entry at row 0, column 0 */
 
-/* Bytes of stack that are enough for a call. The most that was seen in use is 967, 811,687 and 4,744,583. */
+/* Bytes of stack that are enough for a call of gannetrope_judge. The most that was seen in use is 967, 811,687 and 4,744,583. */
 #define GANNETROPE_STACK_REFUSED 65536 /* refused with 1 to 12, before any step */
 #define GANNETROPE_STACK_SMALL 1048576 /* N and L at most 4,096 */
 #define GANNETROPE_STACK_LARGE 8388608 /* any call */
@@ -103,6 +103,39 @@ uint32_t gannetrope_judge(
  * p is over 4,096, then with 15 where the buffer is shorter than m + p; then the buffer is left alone.
  */
 uint32_t gannetrope_schedule(uint32_t m, uint32_t p, uint8_t *buffer, size_t buffer_length);
+
+/* How many slots gannetrope_inverse needs in `numbers`. */
+#define GANNETROPE_WRITER_NUMBERS 5
+
+/* The slots of `numbers`. A slot that the answer has no value for is 0. */
+#define GANNETROPE_WRITER_KIND 0    /* GANNETROPE_WRITTEN or GANNETROPE_REFUSED */
+#define GANNETROPE_WRITER_BYTES 1   /* written: how many bytes */
+#define GANNETROPE_WRITER_REFUSAL 2 /* refused: the number of the refusal, 3 to 10 or 16 */
+#define GANNETROPE_WRITER_LIST 3    /* refused with 3 to 10: the list, 1 */
+#define GANNETROPE_WRITER_OFFSET 4  /* refused with 3 to 10: an offset in that list */
+
+/* The kind of an answer that is no refusal. */
+#define GANNETROPE_WRITTEN 0
+
+/*
+ * Writes the list of a list's inverse: its gates in opposite order, each by its inverse code. Written twice, it is the
+ * first list again; after the list it undoes it.
+ *
+ * list           the gate list as bytes
+ * buffer         as many bytes as the list has; more are left alone
+ * numbers        at least GANNETROPE_WRITER_NUMBERS slots for the answer; more are left alone
+ *
+ * Returns 0 if `numbers` has the answer: the bytes written, which are as many as the list's, or the refusal, 3 to 10 of
+ * the list and then 16 where the buffer is shorter than the inverse; a refusal leaves the buffer alone.
+ *
+ * Returns 1 if `numbers` is too short: then nothing was written.
+ *
+ * The call takes time in proportion to the list's length, and less stack than GANNETROPE_STACK_REFUSED says.
+ */
+uint32_t gannetrope_inverse(
+    const uint8_t *list, size_t list_length,
+    uint8_t *buffer, size_t buffer_length,
+    uint64_t *numbers, size_t numbers_length);
 
 #ifdef __cplusplus
 }

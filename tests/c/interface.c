@@ -86,7 +86,25 @@ static void print_schedule(uint32_t m, uint32_t p, size_t length) {
     printf("\n");
 }
 
+static void print_inverse(const uint8_t *list, size_t list_length, size_t length, size_t slots) {
+    uint8_t buffer[12];
+    uint64_t numbers[GANNETROPE_WRITER_NUMBERS + 1];
+    size_t slot;
+    memset(buffer, 9, sizeof buffer);
+    for (slot = 0; slot <= GANNETROPE_WRITER_NUMBERS; slot++)
+        numbers[slot] = 8;
+    printf("inverse: status %" PRIu32 ",", gannetrope_inverse(list, list_length, buffer, length, numbers, slots));
+    for (slot = 0; slot <= GANNETROPE_WRITER_NUMBERS; slot++)
+        printf(" %" PRIu64, numbers[slot]);
+    printf(",");
+    for (slot = 0; slot < sizeof buffer; slot++)
+        printf(" %d", buffer[slot]);
+    printf("\n");
+}
+
 int main(void) {
+    static const uint8_t undone[] = {2, 3, 6, 1, 8, 0, 1, 3, 0};
+    const size_t writer = GANNETROPE_WRITER_NUMBERS;
     const size_t numbers = GANNETROPE_NUMBERS, entries = GANNETROPE_ENTRIES;
     memset(&untouched, 0x55, sizeof untouched);
 
@@ -100,5 +118,10 @@ int main(void) {
     print_schedule(2, 4, 8);
     print_schedule(4097, 0, 8);
     print_schedule(2, 4, 5);
+    print_inverse(undone, sizeof undone, 12, writer);
+    print_inverse(undone, sizeof undone, sizeof undone, writer + 1);
+    print_inverse(undone, sizeof undone, sizeof undone - 1, writer);
+    print_inverse(undone, sizeof undone - 1, 12, writer);
+    print_inverse(undone, sizeof undone, 12, writer - 1);
     return 0;
 }

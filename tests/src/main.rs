@@ -1,4 +1,4 @@
-//! Tests of the judging library, its bindings and the verdict program against a dense-matrix program.
+//! Tests of the library, its bindings and the programs against a dense-matrix program.
 //!
 //! With no arguments every group runs; else those named. README.md has the groups and the variables.
 
@@ -14,6 +14,7 @@ mod markdown;
 mod on_thread;
 mod program;
 mod random;
+mod scripts;
 mod shell;
 mod tally;
 
@@ -35,10 +36,11 @@ fn run_groups() -> ExitCode {
     let library = path("GANNETROPE_LIB_DIR", home.join("../target/staticlib"));
     let vectors = path("GANNETROPE_VECTORS", home.join("vectors"));
     let program = Program { path: path("GANNETROPE_VERDICT", home.join("../target/bin/verdict")) };
+    let inverse = path("GANNETROPE_INVERSE", home.join("../target/bin/inverse"));
     let seed = env::var("GANNETROPE_SEED").map_or(1, |seed| seed.parse().expect("a seed is a number"));
     println!("seed {seed}");
 
-    let groups: [Group; 20] = [
+    let groups: [Group; 22] = [
         ("dense", Box::new(|tally| groups::dense_itself::run(tally, seed))),
         ("paper", Box::new(groups::paper::run)),
         ("refusals", Box::new(|tally| groups::refusals::run(tally, seed))),
@@ -48,6 +50,7 @@ fn run_groups() -> ExitCode {
         ("widths", Box::new(groups::widths::run)),
         ("places", Box::new(groups::places::run)),
         ("qubits", Box::new(|tally| groups::many_qubits::run(tally, seed))),
+        ("inverses", Box::new(|tally| groups::inverses::run(tally, seed))),
         ("slow", Box::new(|tally| groups::slow::run(tally, home, &library, &vectors, &program, seed))),
         ("stack", Box::new(|tally| groups::stack::run(tally, home, &library, &program, seed))),
         ("binding", Box::new(|tally| groups::binding::run(tally, seed))),
@@ -56,8 +59,9 @@ fn run_groups() -> ExitCode {
         ("vectors", Box::new(|tally| groups::vectors::run(tally, &vectors, &program))),
         ("verdict", Box::new(|tally| groups::verdict::run(tally, &program, seed))),
         ("judge", Box::new(|tally| groups::judge::run(tally, home, &program, seed))),
+        ("invert", Box::new(|tally| groups::invert::run(tally, home, &inverse, seed))),
         ("examples", Box::new(|tally| groups::examples::run(tally, home, seed))),
-        ("readme", Box::new(|tally| groups::readme::run(tally, home, &library, &program))),
+        ("readme", Box::new(|tally| groups::readme::run(tally, home, &library, &program, &inverse))),
         ("map", Box::new(|tally| groups::map::run(tally, home))),
     ];
     run(&groups)

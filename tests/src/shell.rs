@@ -26,10 +26,12 @@ impl Folder {
         Folder { path }
     }
 
-    /// A folder with a copy of the script judge, which looks for the verdict program in it.
-    pub fn with_judge(name: &str, home: &Path) -> Folder {
+    /// A folder with copies of some scripts and of what they share; they look for their programs in it.
+    pub fn with_scripts(name: &str, home: &Path, scripts: &[&str]) -> Folder {
         let folder = Folder::new(name);
-        folder.write_script("judge", &fs::read(home.join("../judge")).expect("the script judge"));
+        for script in scripts.iter().chain(&["scripts/common.bash"]) {
+            folder.write_script(script, &fs::read(home.join("..").join(script)).expect("a script"));
+        }
         folder
     }
 

@@ -2,7 +2,7 @@
 //!
 //! This crate is a thin, safe layer over the proved static library; nothing that decides a verdict is in it. [`judge`]
 //! owns the stores that a call needs and takes the schedule that suits most pairs; [`judge_in`] lends the caller's own
-//! columns and schedule.
+//! columns and schedule. [`inverse`] writes the list that undoes a list.
 //!
 //! A gate list is bytes: the number of qubits (1 to 16), the number of gates (at most 4,096), then for each gate its
 //! code and a qubit, or for CNOT and CZ the control and the target.
@@ -23,6 +23,7 @@
 //! `rt staticlib capi` makes the static library that this crate links, in `target/staticlib` of the repository;
 //! `GANNETROPE_LIB_DIR` names another directory.
 
+mod inverse;
 mod judge;
 pub mod raw;
 mod report;
@@ -30,6 +31,7 @@ mod schedule;
 mod stack;
 mod store;
 
+pub use inverse::{fill_inverse, inverse};
 pub use judge::{Judged, Limits, judge, judge_in};
 pub use report::{Entry, Refusal, Report, Verdict};
 pub use schedule::{MOST_GATES, Schedule, fill_proportional, proportional};

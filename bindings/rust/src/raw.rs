@@ -36,4 +36,14 @@ unsafe extern "C" {
     /// # Safety
     /// The pointer is not null and good for its length.
     pub fn gannetrope_schedule(m: u32, p: u32, buffer: *mut u8, buffer_length: usize) -> u32;
+
+    /// Writes the inverse of a list: 0 if `numbers` has what was answered, 1 if it is too short.
+    ///
+    /// # Safety
+    /// Every pointer is aligned, not null and good for its length; what is lent for writing overlaps nothing else.
+    pub fn gannetrope_inverse(
+        list: *const u8, list_length: usize,
+        buffer: *mut u8, buffer_length: usize,
+        numbers: *mut u64, numbers_length: usize,
+    ) -> u32;
 }

@@ -106,7 +106,7 @@ impl fmt::Display for Verdict {
 #[derive(Clone, Copy, Debug, PartialEq, Eq, Hash)]
 pub enum Refusal {
     /// The call itself: 1 width, 2 column lengths, 11 qubit counts differ, 12 schedule does not fit; of the schedule
-    /// maker 6 gate count, 15 buffer.
+    /// maker 6 gate count, 15 buffer; of the writer of an inverse 16 buffer.
     Call {
         /// The refusal's number.
         number: u32,

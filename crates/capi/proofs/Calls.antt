@@ -12,7 +12,7 @@ use Rattle.stores.specs.Columns.{Columns}
 use Rattle.miters.specs.declared.Report.{Report}
 use Rattle.miters.specs.Run.{Outcome}
 use Rattle.judges.specs.Calls.{leaving}
-use Rattle.fields.specs.Numbers.{Written}
+use Rattle.fields.specs.Numbers.{Shown}
 use Rattle.capi.specs.Calls.{Returned, returning, reported, judging}
 
 module _ (answer : Columns → Columns → Outcome) (first second : Columns) (numbers : List ℕ) (entries : List ℤ) where
@@ -29,7 +29,7 @@ module _ (answer : Columns → Columns → Outcome) (first second : Columns) (nu
     short-entries short = sym (ap₂ by-room (le-leb 11 (length numbers) long) (lt-leb 8 (length entries) short))
 
     pub with-room : 8 ≤ length entries → {report : Report} {first′ second′ : Columns} {numbers′ : List ℕ} {entries′ : List ℤ}
-        → leaving report first′ second′ ≡ answer first second → Written report numbers entries numbers′ entries′
+        → leaving report first′ second′ ≡ answer first second → Shown report numbers entries numbers′ entries′
         → returning 0 first′ second′ numbers′ entries′ ≡ judging answer first second numbers entries
     unfolding judging
     with-room room {first′ = first′} {second′} is written =

@@ -9,7 +9,8 @@ use Rattle.schedules.specs.declared.Made.{Made}
 use Rattle.schedules.specs.declared.Made.the-variants.{Steps, Refused}
 use Rattle.stores.specs.Columns.{Columns, over}
 use Rattle.miters.specs.Run.{Outcome}
-use Rattle.fields.specs.Numbers.{numbers-of, entries-of}
+use Rattle.inverses.specs.Inverse.{Filled}
+use Rattle.fields.specs.Numbers.{numbers-of, entries-of, written-numbers}
 
 -- ---- the judging call
 
@@ -41,3 +42,21 @@ judging answer first second numbers entries =
 abbrev pub steps-or-refusal : Made → ℕ
 steps-or-refusal (Steps n) = n
 steps-or-refusal (Refused number) = 65536 + number
+
+-- ---- a writer
+
+-- a status, and what stands then in the buffer and in the slice of numbers
+pub record Left : Type 0 where
+  pub status : ℕ
+  pub buffer : List ℕ
+  pub numbers : List ℕ
+
+abbrev pub leaving : ℕ → List ℕ → List ℕ → Left
+leaving status buffer numbers = record { status = status; buffer = buffer; numbers = numbers }
+
+-- 0, with what was answered in the first slots of the numbers, whose other slots stay as they were; 1 where they are too few, and
+-- all is as it was
+unfoldable pub writing : (List ℕ → Filled) → List ℕ → List ℕ → Left
+writing filled buffer numbers =
+    cond (leb 5 (length numbers)) (leaving 0 (filled buffer .buffer) (over (written-numbers (filled buffer .answer)) numbers))
+    (leaving 1 buffer numbers)

@@ -1,10 +1,17 @@
-// The C interface: the judging call and the schedule maker on numbers and slices.
+// The C interface: the judging call, the schedule maker and the writer of a list's inverse, on numbers and slices.
 use schedules::Made;
 ghost use mathlib.Core.Path.{_≡_};
 ghost use Rattle.schedules.specs.Schedule.{made, filled};
 ghost use Rattle.stores.specs.Columns.{columns};
 ghost use Rattle.judges.specs.Answer.{answer};
-ghost use Rattle.capi.specs.Calls.{returning, judging, steps-or-refusal};
+ghost use Rattle.inverses.specs.Inverse.{inverted};
+ghost use Rattle.capi.specs.Calls.{returning, judging, steps-or-refusal, leaving, writing};
+
+// What is added to the number of a refusal, so that it is no count of steps.
+const SCHEDULE_REFUSED: u32 = 65536;
+
+// What a call returns whose slices are too short for its answer.
+const TOO_SHORT: u32 = 1;
 
 // 0, with the report in the two slices; 1 if a slice is too short for it, and then nothing is judged or written.
 #[no_mangle]
@@ -41,11 +48,11 @@ pub extern "C" fn gannetrope_judge(
         (now («other_b» .entry)) (now («other_c» .entry)) (now («other_d» .entry)))
         (now (numbers .entry)) (now (entries .entry)) ⌝ }
 {
-    if numbers.len() < 11 {
-        return 1;
+    if numbers.len() < fields::NUMBERS {
+        return TOO_SHORT;
     }
-    if entries.len() < 8 {
-        return 1;
+    if entries.len() < fields::ENTRIES {
+        return TOO_SHORT;
     }
     let report = judges::judge(
         u,
@@ -79,6 +86,21 @@ pub extern "C" fn gannetrope_schedule(m: u32, p: u32, buffer: &mut [u8]) -> u32
 {
     match schedules::proportional(m, p, buffer) {
         Made::Steps(steps) => steps,
-        Made::Refused(number) => 65536 + number,
+        Made::Refused(number) => SCHEDULE_REFUSED + number,
     }
+}
+
+// 0, with the inverse of the list at the front of the buffer and what was answered in `numbers`; 1 if those are too few, and then
+// nothing is written.
+#[no_mangle]
+pub extern "C" fn gannetrope_inverse(list: &[u8], buffer: &mut [u8], numbers: &mut [u64]) -> u32
+    ensures { λ r. ⌜ leaving r (now (buffer .exit)) (now (numbers .exit))
+        ≡ writing (inverted (now (list .entry))) (now (buffer .entry)) (now (numbers .entry)) ⌝ }
+{
+    if numbers.len() < fields::WRITER_NUMBERS {
+        return TOO_SHORT;
+    }
+    let written = inverses::write_inverse(list, buffer);
+    fields::write_written(written, numbers);
+    0
 }

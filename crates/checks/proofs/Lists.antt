@@ -1,37 +1,21 @@
 -- What the code makes of two lists that it read is what the checks of the lists come to.
 -- Assumes nothing.
-use mathlib.Core.Path.{_≡_, _∙_, ap}
+use mathlib.Core.Path.{_≡_}
 use mathlib.Core.Bool.{true, false}
 use mathlib.Core.List.{List}
 use Prim.Native.Nat.{ℕ}
 use borrow.Author.Tests.{eq-eqb, ne-eqb}
 use Rattle.circuits.specs.declared.Refusal.{Refusal as ListRefusal}
-use Rattle.circuits.specs.declared.Limits.{Limits}
 use Rattle.circuits.specs.Refusals.{base-limits}
 use Rattle.circuits.specs.Reading.{refused, decoded}
-use Rattle.lists.specs.declared.ListRead.{ListRead}
-use Rattle.lists.specs.Answers.{list-answer}
-use Rattle.lists.proofs.Answers.{Listed, list-read, list-refused}
+use Rattle.lists.specs.Answers.{Listed}
 use Rattle.schedules.specs.Schedule.{fits}
 use Rattle.miters.specs.declared.Refusal.the-variants.{Call}
+use Rattle.miters.specs.Report.{at-byte}
 use Rattle.checks.specs.declared.Checked.{Checked}
 use Rattle.checks.specs.declared.Checked.the-variants.{Refused, Pair}
-use Rattle.checks.specs.Checks.{at-byte, check-lists}
+use Rattle.checks.specs.Checks.{check-lists}
 use Rattle.checks.specs.Checks.{checked}
-
--- ---- a list that was read, at the limits of the base
-
-module _ (bytes : List ℕ) {limits : Limits} {answer : ListRead} (base : limits ≡ base-limits) (is : answer ≡ list-answer (decoded limits bytes)) where
-  at-base : answer ≡ list-answer (decoded base-limits bytes)
-  at-base = is ∙ ap (λ (l : Limits). list-answer (decoded l bytes)) base
-
-  pub listed : {qubits gates first : ℕ} → answer ≡ ListRead.List qubits gates first → Listed (decoded base-limits bytes) qubits gates first
-  listed e = list-read (decoded base-limits bytes) at-base e
-
-  pub unlisted : {why : ListRefusal} → answer ≡ ListRead.Refused why → decoded base-limits bytes ≡ refused why
-  unlisted e = list-refused (decoded base-limits bytes) at-base e
-
--- ---- the two lists
 
 module _ (u v schedule : List ℕ) where
   abbrev Found : Checked → Type 0

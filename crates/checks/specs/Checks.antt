@@ -5,13 +5,13 @@ use Prim.Native.Nat.{ℕ}
 use lib.Dec.{eqb, leb}
 use lib.ListN.{length}
 use Rattle.algebra.specs.Width.{fitWidth}
-use Rattle.circuits.specs.declared.Refusal.{Refusal as ListRefusal}
 use Rattle.circuits.specs.Refusals.{base-limits}
 use Rattle.circuits.specs.Reading.{Reading, read, refused as unread, Circuit, decoded}
 use Rattle.schedules.specs.Schedule.{fits}
 use Rattle.stores.specs.Columns.{Columns}
 use Rattle.miters.specs.declared.Refusal.{Refusal}
-use Rattle.miters.specs.declared.Refusal.the-variants.{Call, Byte}
+use Rattle.miters.specs.declared.Refusal.the-variants.{Call}
+use Rattle.miters.specs.Report.{at-byte}
 use Rattle.checks.specs.declared.Lengths.{Lengths}
 use Rattle.checks.specs.declared.Checked.{Checked}
 use Rattle.checks.specs.declared.Checked.the-variants.{Refused, Pair}
@@ -45,10 +45,6 @@ both-rules first second = store-rules first && (store-rules second && (eqb (firs
 pub data Checks : Type 0 where
   refuses : Refusal → Checks
   passes : Circuit → Circuit → Checks
-
--- 3 to 10 are returned with the "list" and the "offset"
-abbrev pub at-byte : ℕ → ListRefusal → Refusal
-at-byte list why = Byte (why .number) list (why .offset)
 
 -- 11: "qubit counts differ"; 12: "schedule doesn't fit"
 abbrev pub check-pair : List ℕ → Circuit → Circuit → Checks

@@ -11,8 +11,9 @@ use Rattle.circuits.specs.Refusals.{base-limits}
 use Rattle.circuits.specs.Reading.{read, refused as unread, Circuit, decoded}
 use Rattle.schedules.specs.Schedule.{fits}
 use Rattle.miters.specs.declared.Refusal.the-variants.{Call}
+use Rattle.miters.specs.Report.{at-byte}
 use Rattle.checks.specs.declared.Lengths.{Lengths}
-use Rattle.checks.specs.Checks.{both-rules, Checks, refuses, passes, at-byte}
+use Rattle.checks.specs.Checks.{both-rules, Checks, refuses, passes}
 
 module _ (u v schedule : List ℕ) (w : ℕ) (first second : Lengths) where
   -- neither 1 nor 2

@@ -5,7 +5,8 @@ use miters::Refusal;
 ghost use mathlib.Core.Path.{_≡_};
 ghost use Rattle.miters.specs.declared.Refusal.the-variants.{Call};
 ghost use Rattle.checks.specs.declared.Checked.the-variants.{Refused};
-ghost use Rattle.checks.specs.Checks.{store-rules, both-rules, at-byte, check-lists, checks, checked};
+ghost use Rattle.miters.specs.Report.{at-byte};
+ghost use Rattle.checks.specs.Checks.{store-rules, both-rules, check-lists, checks, checked};
 
 // The lengths of a store's columns.
 pub struct Lengths {

@@ -3,7 +3,7 @@
 use mathlib.Core.Path.{_≡_, refl, sym, _∙_, ap, subst}
 use mathlib.Core.Bool.{Bool, true, false}
 use mathlib.Core.List.{List}
-use Prim.Native.Nat.{ℕ, _<_, _≤_}
+use Prim.Native.Nat.{ℕ, _≤_}
 use native.Mathlib.Omega.{arith}
 use Rattle.gates.specs.declared.Rule.{Rule}
 use Rattle.gates.specs.declared.Decision.{Decision}
@@ -15,9 +15,10 @@ use Rattle.circuits.specs.declared.GateRead.{GateRead}
 use Rattle.circuits.specs.Reading.{gate}
 use Rattle.circuits.specs.Codes.{gate-code}
 use Rattle.circuits.specs.Answers.{control, gate-answer}
-use Rattle.circuits.proofs.Codes.{gate-decided}
+use Rattle.circuits.proofs.Codes.{gate-decided, inverse-code}
 use Rattle.circuits.specs.Remaining.{Remaining}
 use Rattle.circuits.proofs.Remaining.{remaining-next}
+use Rattle.circuits.proofs.Within.{control-small}
 use Rattle.plans.specs.Prepare.{as-number}
 use Rattle.plans.specs.Prepare.{Controls}
 use Rattle.plans.specs.Layout.{Acts}
@@ -37,19 +38,6 @@ module _ {d : Decision} (code : ℕ) (decided : d ≡ decision code) where
 
 gate-ruled : (code : ℕ) (rule : Rule) (g : Gate) → Ruled code rule → code ≡ gate-code g → rule ≡ gate-rule g
 gate-ruled code rule g ruled e = ruled (gate-rule g) (ap decision e ∙ gate-decided g)
-
--- the code of the inverse
-inverse-code : (g : Gate) → gate-rule g .inverse ≡ gate-code (inverse g)
-inverse-code (on X q) = refl
-inverse-code (on Y q) = refl
-inverse-code (on Z q) = refl
-inverse-code (on H q) = refl
-inverse-code (on S q) = refl
-inverse-code (on S† q) = refl
-inverse-code (on T q) = refl
-inverse-code (on T† q) = refl
-inverse-code (pair CNOT p q) = refl
-inverse-code (pair CZ p q) = refl
 
 module _ (side code : ℕ) (rule : Rule) (ruled : Ruled code rule) where
   pub sided-left : side ≡ 0 → Sided side code rule
@@ -102,10 +90,6 @@ sided-target : (right : Bool) (g : Gate) → target g ≡ target (sided right g)
 sided-target false g = refl
 sided-target true (on k q) = refl
 sided-target true (pair k p q) = refl
-
-control-small : (n : ℕ) (g : Gate) → n ≤ 16 → Fits n g → control g < 65536
-control-small n (on k q) few fits = omega arith
-control-small n (pair k p q) few fits = omega (arith, fits .0)
 
 module _ {answer : GateRead} (bytes : List ℕ) (at n side : ℕ) (answered : answer ≡ gate-answer (gate n bytes at)) where
   pub gate-taken : {code c t next : ℕ} (rule : Rule) → answer ≡ GateRead.Gate code c t next → Sided side code rule

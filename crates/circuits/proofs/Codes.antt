@@ -4,7 +4,7 @@ use mathlib.Core.Path.{_≡_, refl, sym, _∙_, ap, ap₂}
 use mathlib.Core.Logic.{_⊎_, inl, inr, ⊎-elim}
 use mathlib.Core.List.{List}
 use Prim.Native.Nat.{ℕ, zero, suc}
-use Rattle.gates.specs.Gate.{Kind, X, Y, Z, H, S, S†, T, T†, Pair, CNOT, CZ, Gate, on, pair, Meant, one, two, unknown, meant}
+use Rattle.gates.specs.Gate.{Kind, X, Y, Z, H, S, S†, T, T†, Pair, CNOT, CZ, Gate, on, pair, Meant, one, two, unknown, meant, inverse}
 use Rattle.gates.specs.declared.Rule.{Rule}
 use Rattle.gates.specs.declared.Decision.{Decision}
 use Rattle.gates.specs.Rule.{kind-rule, pair-rule, rule-of, decision, gate-rule}
@@ -65,7 +65,20 @@ unfolding decision
 gate-decided (on k q) = ap rule-of (kind-meant k)
 gate-decided (pair k p q) = ap rule-of (pair-meant k)
 
-kind-qubits : (k : Kind) → kind-rule k .qubits ≡ 1
+-- the code of the inverse is among them
+pub inverse-code : (g : Gate) → gate-rule g .inverse ≡ gate-code (inverse g)
+inverse-code (on X q) = refl
+inverse-code (on Y q) = refl
+inverse-code (on Z q) = refl
+inverse-code (on H q) = refl
+inverse-code (on S q) = refl
+inverse-code (on S† q) = refl
+inverse-code (on T q) = refl
+inverse-code (on T† q) = refl
+inverse-code (pair CNOT p q) = refl
+inverse-code (pair CZ p q) = refl
+
+pub kind-qubits : (k : Kind) → kind-rule k .qubits ≡ 1
 kind-qubits X = refl
 kind-qubits Y = refl
 kind-qubits Z = refl
@@ -75,7 +88,7 @@ kind-qubits S† = refl
 kind-qubits T = refl
 kind-qubits T† = refl
 
-pair-qubits : (k : Pair) → pair-rule k .qubits ≡ 2
+pub pair-qubits : (k : Pair) → pair-rule k .qubits ≡ 2
 pair-qubits CNOT = refl
 pair-qubits CZ = refl
 

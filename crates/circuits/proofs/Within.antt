@@ -1,13 +1,16 @@
--- An accepted list is within the limits.
+-- An accepted list is within the limits; how large the numbers of a gate that fits can be.
 -- Assumes nothing.
 use mathlib.Core.Path.{_≡_, subst}
 use mathlib.Core.List.{List, [], _∷_}
-use Prim.Native.Nat.{ℕ}
+use Prim.Native.Nat.{ℕ, _<_, _≤_}
+use native.Mathlib.Omega.{arith}
 use lib.ListN.{length}
-use Rattle.gates.specs.Gate.{Gate, Meant, one, two, unknown, meant, Fits, All-fit}
+use Rattle.gates.specs.Gate.{Gate, on, pair, Meant, one, two, unknown, meant, Fits, All-fit}
+use Rattle.gates.specs.Rule.{target}
 use Rattle.circuits.specs.declared.Limits.{Limits}
 use Rattle.circuits.specs.Refusals.{bad-qubit-count, bad-gate-count}
 use Rattle.circuits.specs.Reading.{read, number, qubit, target-qubit, operands, gate, gates, Circuit, decoded}
+use Rattle.circuits.specs.Answers.{control}
 use Rattle.circuits.specs.Within.{Within}
 use Rattle.circuits.proofs.Readings.{refused-read, read-value, parts, gates-step}
 use Rattle.circuits.proofs.Checks.{qubit-checked, target-checked, count-checked}
@@ -27,7 +30,7 @@ module _ (n : ℕ) (s : List ℕ) where
       subst (Fits n) (read-value (q .second)) (qubit-checked s at n (p .first) .1, t .1, t .2)
   operands-fit start at unknown e = absurd (refused-read e)
 
-  gate-fits : (at : ℕ) {g : Gate} {next : ℕ} → gate n s at ≡ read g next → Fits n g
+  pub gate-fits : (at : ℕ) {g : Gate} {next : ℕ} → gate n s at ≡ read g next → Fits n g
   unfolding gate
   gate-fits at e =
       let c = parts (number s at) e in
@@ -47,3 +50,13 @@ decoded-within limits s {c} e =
     let q = count-checked s 0 1 (limits .qubits) bad-qubit-count (a .qubit-count) in
     let m = count-checked s (a .middle) 0 (limits .gates) bad-gate-count (a .gate-count) in
     record { some-qubit = q .1; few-qubits = q .2; few-gates = m .2; all-fit = gates-fit (c .qubits) s (c .first) (c .gates) (a .all-gates) }
+
+-- ---- the numbers of a gate that fits
+
+pub control-small : (n : ℕ) (g : Gate) → n ≤ 16 → Fits n g → control g < 65536
+control-small n (on k q) few fits = omega arith
+control-small n (pair k p q) few fits = omega (arith, fits .0)
+
+pub target-small : (n : ℕ) (g : Gate) → n ≤ 16 → Fits n g → target g < 16
+target-small n (on k q) few fits = omega (arith, fits)
+target-small n (pair k p q) few fits = omega (arith, fits .1)

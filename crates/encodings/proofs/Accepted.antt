@@ -14,19 +14,24 @@ use Rattle.circuits.specs.Reading.{read, gates, count, Circuit, body, list, dec
 use Rattle.encodings.specs.Encoding.{number-bytes, gates-bytes, list-bytes, Bytes, Decodes}
 use Rattle.circuits.specs.Within.{Within}
 use Rattle.circuits.proofs.Readings.{read-value}
-use Rattle.circuits.proofs.Remaining.{decoded-accepted}
-use Rattle.circuits.proofs.Checks.{count-checked}
 use Rattle.circuits.proofs.Within.{decoded-within}
-use Rattle.encodings.proofs.Spelling.{Spelled, join, split, whole, whole-is}
+use Rattle.encodings.proofs.Spelling.{Spelled, spelled-none, join, split, whole, whole-is}
 use Rattle.encodings.proofs.Numbers.{number-spelled, number-reads}
-use Rattle.encodings.proofs.Gates.{gates-read, gates-spelled}
+use Rattle.encodings.proofs.Gates.{gates-read}
+use Rattle.encodings.proofs.Stretches.{Stretch, decoded-parts}
 
--- ---- counts
+-- ---- what is read is spelled there
+
+spelled-stretch : (s : List ℕ) → Bytes s → Stretch s (Spelled s)
+spelled-stretch s bytes = record {
+  of-none = λ at. spelled-none s at;
+  of-number = number-spelled s bytes;
+  of-both = join;
+}
+
+-- ---- what is spelled there is read
 
 module _ (low high refusal : ℕ) (s : List ℕ) (at : ℕ) {v next : ℕ} where
-  count-spelled : Bytes s → count low high refusal s at ≡ read v next → Spelled s at (number-bytes v) next
-  count-spelled bytes e = number-spelled s bytes at (count-checked s at low high refusal e .0)
-
   count-reads : low ≤ v → v ≤ high → v < 2097152 → Spelled s at (number-bytes v) next → count low high refusal s at ≡ read v next
   unfolding count
   count-reads low≤ ≤high small e = rw (number-reads s at e small, le-leb low v low≤, le-leb v high ≤high)
@@ -37,10 +42,8 @@ module _ (limits : Limits) where
   pub accepted-encoded : (s : List ℕ) → Bytes s → (n : ℕ) (gs : List Gate) → Decodes limits s n gs → Within limits n gs × (s ≡ list-bytes n gs)
   unfolding list-bytes
   accepted-encoded s bytes n gs d =
-      let a = decoded-accepted limits s (d .accepted) in
-      let q = count-spelled 1 (limits .qubits) bad-qubit-count s 0 bytes (a .qubit-count) in
-      let m = count-spelled 0 (limits .gates) bad-gate-count s (a .middle) bytes (a .gate-count) in
-      (decoded-within limits s (d .accepted), whole-is (join q (join m (gates-spelled n s bytes (d .first) gs (a .all-gates)))))
+      let p = decoded-parts s (spelled-stretch s bytes) limits (d .accepted) in
+      (decoded-within limits s (d .accepted), whole-is (join (p .of-qubits) (join (p .of-count) (p .of-gates))))
 
   -- the limits are such that three groups can hold each count
   module _ (small-qubits : limits .qubits < 2097152) (small-gates : limits .gates < 2097152) where

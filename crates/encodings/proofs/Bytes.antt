@@ -2,7 +2,6 @@
 -- Assumes nothing.
 use mathlib.Core.List.{List, [], _∷_, _++_}
 use Prim.Native.Nat.{ℕ, _<_}
-use native.Mathlib.Decide.{decLt}
 use native.Mathlib.Omega.{arith}
 use lib.ListN.{length}
 use Rattle.gates.specs.Gate.{Gate, on, pair, Fits, All-fit}
@@ -10,7 +9,7 @@ use Rattle.circuits.specs.declared.Limits.{Limits}
 use Rattle.circuits.specs.Within.{Within}
 use Rattle.circuits.specs.Codes.{gate-code}
 use Rattle.encodings.specs.Encoding.{number-bytes, operand-bytes, gate-bytes, gates-bytes, list-bytes, Bytes}
-use Rattle.encodings.proofs.Numbers.{one-byte, two-bytes, three-bytes}
+use Rattle.encodings.proofs.Numbers.{one-byte, two-bytes, three-bytes, one, two, three, sized}
 use Rattle.encodings.proofs.Gates.{small-code}
 
 append-bytes : (xs ys : List ℕ) → Bytes xs → Bytes ys → Bytes (xs ++ ys)
@@ -18,12 +17,10 @@ append-bytes [] ys bx by = by
 append-bytes (x ∷ xs) ys bx by = (bx .0, append-bytes xs ys (bx .1) by)
 
 number-bytes-small : (v : ℕ) → v < 2097152 → Bytes (number-bytes v)
-number-bytes-small v small = elim (decLt v 128) [
-  | yes h ↦ rw (one-byte v h) (omega arith)
-  | no h ↦ elim (decLt v 16384) [
-    | yes k ↦ rw (two-bytes v (omega arith) k) (omega arith)
-    | no k ↦ rw (three-bytes v (omega arith)) (omega arith)
-  ]
+number-bytes-small v small = elim (sized v small) [
+  | one h ↦ rw (one-byte v h) (omega arith)
+  | two l h ↦ rw (two-bytes v l h) (omega arith)
+  | three l h ↦ rw (three-bytes v l) (omega arith)
 ]
 
 module _ (n : ℕ) (few : n < 2097152) where
@@ -34,7 +31,8 @@ module _ (n : ℕ) (few : n < 2097152) where
 
   gate-bytes-small : (g : Gate) → Fits n g → Bytes (gate-bytes g)
   gate-bytes-small g fits =
-      append-bytes (number-bytes (gate-code g)) (operand-bytes g) (number-bytes-small (gate-code g) (small-code g)) (operand-bytes-small g fits)
+      append-bytes (number-bytes (gate-code g)) (operand-bytes g) (number-bytes-small (gate-code g) (omega (arith, small-code g)))
+      (operand-bytes-small g fits)
 
   gates-bytes-small : (gs : List Gate) → All-fit n gs → Bytes (gates-bytes gs)
   gates-bytes-small [] fit = tt

@@ -1,5 +1,9 @@
 pub mod Spelling
 pub mod Numbers
+pub mod Stretches
 pub mod Gates
 pub mod Accepted
 pub mod Bytes
+pub mod Lengths
+pub mod Groups
+pub mod Puts

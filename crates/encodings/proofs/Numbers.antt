@@ -27,6 +27,33 @@ module _ (v : ℕ) where
   unfolding number-bytes
   three-bytes large = rw (le-ltb v 128 (omega arith), le-ltb v 16384 large)
 
+-- a number below 2^21 has one of the three forms
+pub data Sized (v : ℕ) : Type 0 where
+  one : v < 128 → Sized v
+  two : 128 ≤ v → v < 16384 → Sized v
+  three : 16384 ≤ v → v < 2097152 → Sized v
+
+pub sized : (v : ℕ) → v < 2097152 → Sized v
+sized v small = elim (decLt v 128) [
+  | yes h ↦ one h
+  | no h ↦ elim (decLt v 16384) [
+    | yes k ↦ two (omega arith) k
+    | no k ↦ three (omega arith) small
+  ]
+]
+
+-- ---- what is read takes as many bytes as its shortest form has
+
+form-long : {at v next : ℕ} {t : List ℕ} → Form at t v next → next ≡ at + length (number-bytes v)
+form-long (single {x} hx) = rw (one-byte x hx)
+form-long (double {x} {y} hx hy y>0) = rw (two-bytes (x % 128 + y * 128) (omega arith) (omega arith))
+form-long (triple {x} {y} {z} hx hy hz z>0) = rw (three-bytes (x % 128 + y % 128 * 128 + z * 16384) (omega arith))
+
+pub number-long : (s : List ℕ) (at : ℕ) {v next : ℕ} → number s at ≡ read v next → next ≡ at + length (number-bytes v)
+number-long s at e = form-long (number-form s at e)
+
+-- ---- what is read is spelled there
+
 -- the groups of a number of two bytes and of three are those of its bytes
 two-back : (x y : ℕ) → x < 256 → 128 ≤ x → y < 128 → 0 < y → number-bytes (x % 128 + y * 128) ≡ x ∷ y ∷ []
 two-back x y byte hx hy y>0 =
@@ -38,28 +65,20 @@ three-back x y z byte-x byte-y hx hy hz z>0 =
     three-bytes (x % 128 + y % 128 * 128 + z * 16384) (omega arith)
     ∙ ap₂ (λ (p : ℕ) (l : List ℕ). p ∷ l) (omega arith) (ap₂ (λ (q r : ℕ). q ∷ r ∷ []) (omega arith) (omega arith))
 
--- ---- what is read is spelled there
-
-record Shown (at : ℕ) (t : List ℕ) (v next : ℕ) : Type 0 where
-  after : next ≡ at + length (number-bytes v)
+record Shown (t : List ℕ) (v : ℕ) : Type 0 where
   rest : List ℕ
   here : t ≡ number-bytes v ++ rest
 
-form-shown : {at v next : ℕ} {t : List ℕ} → Bytes t → Form at t v next → Shown at t v next
-form-shown b (single {x} {t} hx) =
-    record { after = rw (one-byte x hx); rest = t; here = rw (one-byte x hx) }
-form-shown b (double {x} {y} {t} hx hy y>0) =
-    let e = two-back x y (b .0) hx hy y>0 in
-    record { after = rw e; rest = t; here = rw e }
-form-shown b (triple {x} {y} {z} {t} hx hy hz z>0) =
-    let e = three-back x y z (b .0) (b .1 .0) hx hy hz z>0 in
-    record { after = rw e; rest = t; here = rw e }
+form-shown : {at v next : ℕ} {t : List ℕ} → Bytes t → Form at t v next → Shown t v
+form-shown b (single {x} {t} hx) = record { rest = t; here = rw (one-byte x hx) }
+form-shown b (double {x} {y} {t} hx hy y>0) = record { rest = t; here = rw (two-back x y (b .0) hx hy y>0) }
+form-shown b (triple {x} {y} {z} {t} hx hy hz z>0) = record { rest = t; here = rw (three-back x y z (b .0) (b .1 .0) hx hy hz z>0) }
 
 pub number-spelled : (s : List ℕ) → Bytes s → (at : ℕ) {v next : ℕ} → number s at ≡ read v next
     → Spelled s at (number-bytes v) next
 number-spelled s b at {v} {next} e =
     let f = form-shown (drop-bytes at s b) (number-form s at e) in
-    subst (Spelled s at (number-bytes v)) (sym (f .after)) (spelled s at (number-bytes v) (f .rest) (f .here))
+    subst (Spelled s at (number-bytes v)) (sym (number-long s at e)) (spelled s at (number-bytes v) (f .rest) (f .here))
 
 -- ---- what is spelled there is read
 
@@ -88,10 +107,8 @@ module _ (s : List ℕ) (at : ℕ) {v next : ℕ} (p : Spelled s at (number-byte
       read v next ∎
 
   pub number-reads : v < 2097152 → number s at ≡ read v next
-  number-reads small = elim (decLt v 128) [
-    | yes h ↦ read-as (one-byte v h) (one-read at v (drop next s) h)
-    | no h ↦ elim (decLt v 16384) [
-      | yes k ↦ read-as (two-bytes v (omega arith) k) (two-read at v (drop next s) (omega arith) k)
-      | no k ↦ read-as (three-bytes v (omega arith)) (three-read at v (drop next s) (omega arith) small)
-    ]
+  number-reads small = elim (sized v small) [
+    | one h ↦ read-as (one-byte v h) (one-read at v (drop next s) h)
+    | two l h ↦ read-as (two-bytes v l h) (two-read at v (drop next s) l h)
+    | three l h ↦ read-as (three-bytes v l) (three-read at v (drop next s) l h)
   ]

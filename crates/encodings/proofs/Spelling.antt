@@ -1,8 +1,9 @@
--- A list of bytes that stands at an offset: joined from two, and split in two.
+-- A list of bytes that stands at an offset: none, joined from two, and split in two.
 -- Assumes nothing.
 use mathlib.Core.Path.{_≡_, refl, sym, _∙_, ap}
 use mathlib.Core.List.{List, [], _∷_, _++_, append-assoc, append-nil}
 use Prim.Native.Nat.{ℕ, zero, suc, _+_}
+use native.Mathlib.Nat.{add-zero}
 use native.Mathlib.Omega.{arith}
 use lib.ListN.{length, drop, length-append}
 use lib.Seq.{drop-drop, drop-append-seam, drop-length}
@@ -18,6 +19,9 @@ drop-spelled s at xs rest e = sym (drop-drop (length xs) at s) ∙ (ap (drop (le
 
 pub spelled : (s : List ℕ) (at : ℕ) (xs rest : List ℕ) → drop at s ≡ xs ++ rest → Spelled s at xs (at + length xs)
 spelled s at xs rest e = record { after = refl; here = e ∙ ap (λ (r : List ℕ). xs ++ r) (sym (drop-spelled s at xs rest e)) }
+
+pub spelled-none : (s : List ℕ) (at : ℕ) → Spelled s at [] at
+spelled-none s at = record { after = sym (add-zero at); here = refl }
 
 module _ {s : List ℕ} {at : ℕ} where
   pub join : {xs ys : List ℕ} {mid next : ℕ} → Spelled s at xs mid → Spelled s mid ys next → Spelled s at (xs ++ ys) next

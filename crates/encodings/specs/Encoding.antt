@@ -2,9 +2,10 @@
 use mathlib.Core.Bool.{cond}
 use mathlib.Core.Path.{_≡_}
 use mathlib.Core.List.{List, [], _∷_, _++_}
-use Prim.Native.Nat.{ℕ, _+_, _/_, _%_, _<_}
+use Prim.Native.Nat.{ℕ, _+_, _-_, _/_, _%_, _<_}
+use lib.Count.{leadingZeros}
 use lib.ListN.{length}
-use lib.Dec.{ltb}
+use lib.Dec.{eqb, ltb}
 use Rattle.gates.specs.Gate.{Gate, on, pair}
 use Rattle.circuits.specs.declared.Limits.{Limits}
 use Rattle.circuits.specs.Reading.{read, decoded}
@@ -18,6 +19,11 @@ unfoldable pub number-bytes : ℕ → List ℕ
 number-bytes v =
     cond (ltb v 128) (v ∷ [])
     (cond (ltb v 16384) ((v % 128 + 128) ∷ v / 128 ∷ []) ((v % 128 + 128) ∷ (v / 128 % 128 + 128) ∷ v / 16384 ∷ []))
+
+-- "the group count of a number comes from its significant bits": a group for each seven of them or part of seven, and one for 0,
+-- which has none. A number of 32 bits has those that are not leading zeros.
+unfoldable pub groups : ℕ → ℕ
+groups v = cond (eqb v 0) 1 ((32 - leadingZeros 32 v + 6) / 7)
 
 -- "per gate its code and one qubit, or for 8 and 9 the control and the target"
 abbrev pub operand-bytes : Gate → List ℕ

@@ -1,26 +1,10 @@
 // The end of a run: how much of the first store is kept, and the report, with the verdict read off that store.
-use miters::Refusal;
 use miters::Report;
-use miters::Verdict;
 use plans::Used;
 use runs::End;
 ghost use mathlib.Core.Path.{_≡_};
 ghost use Rattle.stores.specs.Columns.{columns};
-ghost use Rattle.miters.specs.Report.{refused};
 ghost use Rattle.endings.specs.Ending.{kept, Readable, report-of};
-
-// A refused report has 0 in each field beside the verdict.
-pub fn refused(why: Refusal) -> Report
-    ensures { λ r. ⌜ r ≡ refused why ⌝ }
-{
-    Report {
-        verdict: Verdict::Refused(why),
-        exponent: 0,
-        steps: 0,
-        nodes: 0,
-        values: 0,
-    }
-}
 
 // How much of the first store is kept after a run.
 pub fn kept(ended: End) -> Used
@@ -56,7 +40,7 @@ pub fn report(
         (columns (now (level .entry)) (now (low .entry)) (now (high .entry)) (now (a .entry)) (now (b .entry)) (now (c .entry)) (now (d .entry))) ended ⌝ }
 {
     match ended {
-        End::Stopped(why) => refused(why),
+        End::Stopped(why) => miters::refused(why),
         End::Done {
             steps,
             exponent,

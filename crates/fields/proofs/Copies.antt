@@ -9,6 +9,10 @@ use lib.Seq.{take-length}
 use Rattle.stores.specs.Columns.{over}
 use Rattle.stores.proofs.Filling.{filled, filled-none, filled-more, filled-over, filling-length, listed-take, Passing, passes, passed}
 
+-- a slice that holds a list holds any that is the same
+pub over-same : {A : Type 0} (old : List A) {l m new : List A} → l ≡ m → new ≡ over l old → new ≡ over m old
+over-same {A} old is holds = holds ∙ ap (λ (k : List A). over k old) is
+
 -- the element that goes into a slot
 abbrev source : {A : Type 0} → A → List A → ℕ → A
 source blank from i = getD from i blank

@@ -1,4 +1,4 @@
--- A report as numbers. Definitions only.
+-- A report, and what a writer answers, as numbers. Definitions only.
 use mathlib.Core.Path.{_≡_}
 use mathlib.Core.List.{List, [], _∷_, _++_}
 use Prim.Native.Nat.{ℕ}
@@ -11,6 +11,8 @@ use Rattle.miters.specs.declared.Refusal.the-variants.{Call, Byte, Step}
 use Rattle.miters.specs.declared.Verdict.{Verdict}
 use Rattle.miters.specs.declared.Verdict.the-variants.{Equal, Different, Refused}
 use Rattle.miters.specs.declared.Report.{Report}
+use Rattle.inverses.specs.declared.Written.{Written}
+use Rattle.inverses.specs.declared.Written.the-variants.{Bytes, Refused as Unwritten}
 use Rattle.fields.specs.declared.Reason.{Reason}
 
 -- "Returned" of the table: the number alone, or the list and the offset, or the steps finished before; 0 for what is not
@@ -46,6 +48,13 @@ entries-of (Different d) = parts (d .entry) ++ parts (d .corner)
 entries-of (Refused why) = parts 𝟘 ++ parts 𝟘
 
 -- what a report leaves in the slices with ′
-pub record Written (report : Report) (numbers : List ℕ) (entries : List ℤ) (numbers′ : List ℕ) (entries′ : List ℤ) : Type 0 where
+pub record Shown (report : Report) (numbers : List ℕ) (entries : List ℤ) (numbers′ : List ℕ) (entries′ : List ℤ) : Type 0 where
   pub of-numbers : numbers′ ≡ over (numbers-of report) numbers
   pub of-entries : entries′ ≡ over (entries-of (report .verdict)) entries
+
+-- what a writer answers: the kind is 0 or, as in a report, 2; then the bytes written, and the refusal's number, list and offset
+unfoldable pub written-numbers : Written → List ℕ
+written-numbers (Bytes n) = 0 ∷ n ∷ 0 ∷ 0 ∷ 0 ∷ []
+written-numbers (Unwritten why) =
+    let w = reason-of why in
+    2 ∷ 0 ∷ w .number ∷ w .list ∷ w .offset ∷ []

@@ -158,7 +158,7 @@ kind-involutive S† q = (refl, refl)
 kind-involutive T q = (refl, refl)
 kind-involutive T† q = (refl, refl)
 
-inverse-inverse : (g : Gate) → inverse (inverse g) ≡ g
+pub inverse-inverse : (g : Gate) → inverse (inverse g) ≡ g
 inverse-inverse (on k q) = ap (λ j. on j q) (kind-involutive k q .0)
 inverse-inverse (pair k p q) = refl
 

@@ -2,7 +2,6 @@
 use circuits::NumberRead;
 use miters::Refusal;
 use miters::Report;
-use miters::Verdict;
 ghost use mathlib.Core.Path.{_≡_};
 ghost use Prim.Native.Nat.{_≤_};
 ghost use lib.ListN.{length};
@@ -16,17 +15,11 @@ const ENDS_EARLY: u32 = 3;
 fn refuse_length(number: u32) -> Report
     ensures { λ r. ⌜ r ≡ bad-length number ⌝ }
 {
-    Report {
-        verdict: Verdict::Refused(Refusal::Byte {
-            number,
-            list: 0,
-            offset: 0,
-        }),
-        exponent: 0,
-        steps: 0,
-        nodes: 0,
-        values: 0,
-    }
+    miters::refused(Refusal::Byte {
+        number,
+        list: 0,
+        offset: 0,
+    })
 }
 
 // The report on an input: list 1 after its length, and list 2 to the end.

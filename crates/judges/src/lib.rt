@@ -422,7 +422,7 @@ pub fn judge(
         d: other_d.len(),
     };
     match checks::check(u, v, schedule, w, first, second) {
-        Checked::Refused(why) => endings::refused(why),
+        Checked::Refused(why) => miters::refused(why),
         Checked::Pair { n, offsets } => {
             judge_sized(
                 SMALL,

@@ -91,7 +91,7 @@ line r = answer (r .verdict) r ++ bytes "\n"
 -- ---- the buffer
 
 -- a text in the first bytes of a buffer, which keeps the rest
-abbrev pub over-front : List ℕ → List ℕ → List ℕ
+unfoldable pub over-front : List ℕ → List ℕ → List ℕ
 over-front [] buffer = buffer
 over-front (x ∷ text) [] = []
 over-front (x ∷ text) (y ∷ buffer) = x ∷ over-front text buffer

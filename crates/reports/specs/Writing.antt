@@ -1,10 +1,9 @@
 -- What the inner functions say: a text is written into the buffer at a place, and the place after it is returned. No public
 -- contract cites it.
-use mathlib.Core.Path.{_≡_}
 use mathlib.Core.List.{List}
-use Prim.Native.Nat.{ℕ, _+_, _≤_}
+use Prim.Native.Nat.{ℕ, _≤_}
 use lib.ListN.{length}
-use lib.Seq.{sets}
+use Rattle.encodings.specs.Writing.{Put as Wrote}
 
 -- the bytes of the buffer
 abbrev pub room : ℕ
@@ -12,6 +11,5 @@ room = 256
 
 -- a text of at most `limit` bytes, written at the place `at`
 pub record Put (text : List ℕ) (limit at : ℕ) (before after : List ℕ) (next : ℕ) : Type 0 where
-  pub place : next ≡ at + length text
+  pub wrote : Wrote text at before after next
   pub short : length text ≤ limit
-  pub stored : after ≡ sets before at text

@@ -3,6 +3,7 @@
 
 pub mod diagram;
 pub mod entry;
+pub mod inverse;
 pub mod matrix;
 pub mod miter;
 pub mod reader;

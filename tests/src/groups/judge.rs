@@ -6,22 +6,17 @@ use crate::circuits::{X, Y, Z, list, on_one_qubit, program_input, random_circuit
 use crate::dense::verdict_line;
 use crate::program::Program;
 use crate::random::Random;
+use crate::scripts::{LOST, Script, UNUSABLE, builds, failing_programs};
 use crate::shell::{Folder, SIGNALLED, bash};
 use crate::tally::{Checked, Tally, alike};
 
-/// Where the script has the program.
-const VERDICT: &str = "target/bin/verdict";
+const JUDGE: Script = Script { name: "judge", program: "verdict", arguments: "list list" };
 
-/// The statuses that the script has of its own.
-const LOST: i32 = 1;
-const UNUSABLE: i32 = 2;
-
-const SIGSEGV: i32 = 11;
 const SIGPIPE: i32 = 13;
 
 pub fn run(tally: &mut Tally, home: &Path, program: &Program, seed: u64) {
-    let folder = Folder::with_judge("judge", home);
-    folder.link(VERDICT, &program.path);
+    let folder = Folder::with_scripts("judge", home, &[JUDGE.name]);
+    folder.link(&JUDGE.place(), &program.path);
     // the two orders of this pair have different factors, so lists that change places show
     let (u, v) = (list(&on_one_qubit(&[Y])), list(&on_one_qubit(&[Z, X])));
     folder.write("u", &u);
@@ -32,8 +27,8 @@ pub fn run(tally: &mut Tally, home: &Path, program: &Program, seed: u64) {
     bad_inputs(tally, &folder);
     bad_outputs(tally, &folder);
     tally.case("judge, temporary files", || leaves_nothing(&folder));
-    failing_programs(tally, home);
-    builds(tally, home);
+    failing_programs(tally, home, &JUDGE);
+    builds(tally, home, &JUDGE);
 }
 
 fn check(folder: &Folder, script: &str, status: i32, output: &str, errors: &[&str]) -> Checked {
@@ -122,86 +117,4 @@ fn leaves_nothing(folder: &Folder) -> Checked {
         ./judge u v; ./judge u missing; ./judge u v >/dev/full; exec 3> >(:); wait $!; ./judge u v >&3";
     bash(&folder.path, script, &[])?;
     alike("files left", folder.count("temporary"), 0)
-}
-
-/// A program that fails is no answer, whatever it printed; nor is one that prints nothing.
-fn failing_programs(tally: &mut Tally, home: &Path) {
-    let cases: [(&str, &str, i32); 4] = [
-        ("fails", "exit 7", 7),
-        ("fails after its line", "echo equal; exit 3", 3),
-        ("is killed", "kill -SEGV $$", SIGNALLED + SIGSEGV),
-        ("prints nothing", "exit 0", LOST),
-    ];
-    for (name, body, status) in cases {
-        tally.case(&format!("judge, program that {name}"), || {
-            let folder = unbuilt(home);
-            folder.write_script(VERDICT, script(body).as_bytes());
-            check(&folder, "./judge list list", status, "", &["judge: the verdict program"])
-        });
-    }
-}
-
-/// A folder with the script and a list, but no program.
-fn unbuilt(home: &Path) -> Folder {
-    let folder = Folder::with_judge("unbuilt", home);
-    folder.write("list", &list(&on_one_qubit(&[])));
-    folder
-}
-
-fn script(body: &str) -> String {
-    format!("#!/bin/sh\n{body}\n")
-}
-
-fn builds(tally: &mut Tally, home: &Path) {
-    tally.case("judge, a build", || build_succeeds(home));
-    let fails_late = format!("{PROVER}\nexit 1");
-    for (name, prover) in [("that fails", "exit 1"), ("that fails late", &fails_late), ("of nothing", "exit 0")] {
-        tally.case(&format!("judge, a build {name}"), || build_fails(home, prover));
-    }
-    tally.case("judge, no toolchain", || no_toolchain(home));
-}
-
-/// A stand-in for the prover, which prints as it does.
-const PROVER: &str = "\
-[ \"$*\" = 'check verdict' ] && [ -f judge ] || exit 9
-echo 'fn algebra::sum: proved'
-echo 'rt: algebra proved (6 s)'
-echo 'library std: modules loaded=0' >&2
-echo 'rt: verdict proved (1 s)'
-mkdir -p target/bin
-printf '#!/bin/sh\\necho equal\\n' >target/bin/verdict
-chmod +x target/bin/verdict
-echo 'rt: ok, 2 crates'";
-
-/// The progress goes to standard error, the rest to the log, the answer alone to standard output.
-fn build_succeeds(home: &Path) -> Checked {
-    let folder = unbuilt(home);
-    folder.write_script("tools/rt", script(PROVER).as_bytes());
-    let ran = bash(&folder.path, "cd / && PATH=$OLDPWD/tools:$PATH \"$OLDPWD/judge\" \"$OLDPWD\"/{list,list}", &[])?;
-    let progress = "rt: algebra proved (6 s)\nrt: verdict proved (1 s)\n";
-    ran.check(0, b"equal\n", &[progress, "target/judge.log\n"])?;
-    if ran.errors.contains("fn algebra::sum") || ran.errors.contains("library std") {
-        return Err(format!("the prover's output is shown: {}", ran.errors));
-    }
-    let all = "fn algebra::sum: proved\nrt: algebra proved (6 s)\nlibrary std: modules loaded=0\n\
-        rt: verdict proved (1 s)\nrt: ok, 2 crates\n";
-    alike("log", &folder.read("target/judge.log")[..], all)
-}
-
-/// What a build leaves that fails is not taken for a program by the next run.
-fn build_fails(home: &Path, prover: &str) -> Checked {
-    let folder = unbuilt(home);
-    folder.write_script("tools/rt", script(prover).as_bytes());
-    let errors = ["judge: the build failed: see ", "target/judge.log\n"];
-    let judge = "PATH=$PWD/tools:$PATH ./judge list list";
-    check(&folder, judge, UNUSABLE, "", &errors)?;
-    check(&folder, judge, UNUSABLE, "", &errors)
-}
-
-/// The PATH has the tools that the script needs, but for the prover.
-fn no_toolchain(home: &Path) -> Checked {
-    let folder = unbuilt(home);
-    let links = "mkdir tools; for tool in bash dirname readlink mktemp cat rm; do
-        ln -s \"$(command -v $tool)\" tools/; done; PATH=$PWD/tools ./judge list list";
-    check(&folder, links, UNUSABLE, "", &["judge: the Rattle toolchain is missing"])
 }

@@ -6,6 +6,8 @@ pub mod dense_itself;
 pub mod documentation;
 pub mod examples;
 pub mod header;
+pub mod inverses;
+pub mod invert;
 pub mod judge;
 pub mod many_qubits;
 pub mod map;

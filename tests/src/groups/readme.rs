@@ -13,11 +13,11 @@ const PROMPT: &str = "$ ";
 
 /// How the head of the table of refusals begins, and the last number that it must have.
 const REFUSALS: &str = "| No. |";
-const LAST_REFUSAL: usize = 15;
+const LAST_REFUSAL: usize = 16;
 
-pub fn run(tally: &mut Tally, home: &Path, library: &Path, program: &Program) {
+pub fn run(tally: &mut Tally, home: &Path, library: &Path, verdict: &Program, inverse: &Path) {
     let readme = fs::read_to_string(home.join("../README.md")).expect("README.md");
-    let folder = tree(home, library, program);
+    let folder = tree(home, library, verdict, inverse);
     let blocks = blocks(&readme);
     for language in ["c", "toml", "rust"] {
         tally.case(&format!("README, {language}"), || save(&folder, &blocks, language));
@@ -31,9 +31,10 @@ pub fn run(tally: &mut Tally, home: &Path, library: &Path, program: &Program) {
 }
 
 /// A tree like the repository's, in which the commands may write.
-fn tree(home: &Path, library: &Path, program: &Program) -> Folder {
-    let folder = Folder::with_judge("readme", home);
-    folder.link("target/bin/verdict", &program.path);
+fn tree(home: &Path, library: &Path, verdict: &Program, inverse: &Path) -> Folder {
+    let folder = Folder::with_scripts("readme", home, &["judge", "invert"]);
+    folder.link("target/bin/verdict", &verdict.path);
+    folder.link("target/bin/inverse", inverse);
     for name in ["examples", "include", "bindings"] {
         folder.link(name, &home.join("..").join(name));
     }

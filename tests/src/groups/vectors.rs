@@ -2,7 +2,7 @@
 
 use std::path::Path;
 
-use gannetrope::{Entry, Node, Refusal, Report, Verdict, fill_proportional};
+use gannetrope::{Entry, Node, Refusal, Report, Verdict, fill_inverse, fill_proportional};
 
 use crate::call;
 use crate::dense::diagram::Diagram;
@@ -20,6 +20,9 @@ pub fn run(tally: &mut Tally, directory: &Path, program: &Program) {
     }
     for vector in lines(directory, "schedule.jsonl") {
         tally.case(vector.text("name"), || check_schedule(&vector));
+    }
+    for vector in lines(directory, "inverse-stage01.jsonl") {
+        tally.case(vector.text("name"), || check_inverse(&vector));
     }
     for vector in lines(directory, "verdict-stage00.jsonl") {
         tally.case(vector.text("name"), || check_line(&vector, program));
@@ -125,6 +128,26 @@ fn check_schedule(vector: &Json) -> Checked {
     let found = fill_proportional(vector.number("m"), vector.number("p"), &mut buffer);
     alike("returned", format!("{found:?}"), format!("{returned:?}"))?;
     alike("buffer", &hex::encode(&buffer)[..], expect.text("buffer"))
+}
+
+// ---- inverses
+
+fn check_inverse(vector: &Json) -> Checked {
+    let expect = vector.get("expect");
+    let returned: Result<usize, Refusal> = match expect.has("refused") {
+        true => Err(refusal(expect.get("refused"))),
+        false => Ok(expect.number("returned")),
+    };
+    let list = hex::decode(vector.text("list"));
+    let writers: [(&str, fn(&[u8], &mut [u8]) -> Result<usize, Refusal>); 2] =
+        [("library", fill_inverse), ("dense program", dense::inverse::fill_inverse)];
+    for (name, fill) in writers {
+        let mut buffer = hex::decode(vector.text("buffer"));
+        let found = fill(&list, &mut buffer);
+        alike(&format!("{name}, returned"), format!("{found:?}"), format!("{returned:?}"))?;
+        alike(&format!("{name}, buffer"), &hex::encode(&buffer)[..], expect.text("buffer"))?;
+    }
+    Ok(())
 }
 
 // ---- lines of the verdict program

@@ -3,7 +3,8 @@
 use mathlib.Core.Path.{sym, _∙_}
 use borrow.Author.Needs.{needs}
 use borrow.Author.Tests.{not-true, not-false}
-use Rattle.checks.proofs.Lists.{listed, unlisted, first-refused, second-refused, counts-refused, schedule-refused, pair-found}
+use Rattle.lists.proofs.Answers.{listed, unlisted}
+use Rattle.checks.proofs.Lists.{first-refused, second-refused, counts-refused, schedule-refused, pair-found}
 use Rattle.checks.proofs.check_lists.Statement.{statement}
 use Rattle.checks.proofs.check_lists.Tie as tie
 

@@ -1,14 +1,8 @@
 -- `fields::write_report` meets its contract: the two arrays are the report's numbers and entries. Assumes nothing.
-use mathlib.Core.Path.{_≡_, _∙_, ap}
-use mathlib.Core.List.{List}
 use borrow.Author.Needs.{needs}
-use Rattle.stores.specs.Columns.{over}
+use Rattle.fields.proofs.Copies.{over-same}
 use Rattle.fields.proofs.write_report.Statement.{statement}
 use Rattle.fields.proofs.write_report.Tie as tie
-
--- a slice that holds a list holds any that is the same
-over-same : {A : Type 0} (old : List A) {l m new : List A} → l ≡ m → new ≡ over l old → new ≡ over m old
-over-same {A} old is holds = holds ∙ ap (λ (k : List A). over k old) is
 
 report-numbers-requires : tie.Need-report-numbers-requires
 report-numbers-requires c κs = search needs

@@ -46,7 +46,7 @@ loop-again : tie.Need-loop-again Inv-loop μ-loop
 loop-again c =
     let g = c .before .before .before in
     g .before .before .loop .inv
-    ∙ left-read _ _ _ _ _ _ (g .before .loop-test .taken) (gate-read (gate _ _ _) (g .gate-at .ensures) (c .before .next .given .1) .1)
+    ∙ left-read _ _ _ _ _ _ (g .before .loop-test .taken) (gate-read (gate _ _ _) (g .gate-at .ensures) (c .before .next .given .1) .was-read)
 
 returns-2 : tie.Need-returns-2 Inv-loop μ-loop
 returns-2 c = sym (c .before .before .loop .inv ∙ left-over _ _ _ _ _ _ (c .before .loop-test .left) (c .if1 .taken))

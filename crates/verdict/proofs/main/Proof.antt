@@ -1,13 +1,11 @@
 -- `verdict::main` is safe and ends: the line fits its buffer. Assumes nothing.
-use mathlib.Core.Path.{_≡_, sym, _∙_, ap}
+use mathlib.Core.Path.{sym}
 use Prim.Native.Nat.{ℕ, _≤_}
 use native.Mathlib.Omega.{arith}
 use borrow.Author.Needs.{needs}
-use lib.ListN.{length, take, replicate, length-replicate}
+use lib.ListN.{length, length-replicate}
 use lib.Seq.{length-take-le}
-use Rattle.reports.specs.Line.{line}
-use Rattle.reports.proofs.Puts.{length-over-front}
-use Rattle.inputs.specs.Input.{input-report}
+use Rattle.reports.proofs.Puts.{still-within}
 use Rattle.verdict.proofs.main.Statement.{statement}
 use Rattle.verdict.proofs.main.Tie as tie
 
@@ -28,11 +26,7 @@ answer-line-requires c κs = search needs
 
 -- the line, at most 224 bytes, stands in a buffer of 256
 fits : (c : tie.After-answer-line) → c .answer-line .result ≤ length (c .answer-line .last .1 .0)
-fits c =
-    let text = line (input-report (take (c .before .before .before .before .read-full .result) (c .before .before .before .before .read-full .last .1 .0))) in
-    let long : length (c .answer-line .last .1 .0) ≡ 256
-    = ap length (c .answer-line .ensures .1 .1) ∙ length-over-front text (replicate 256 0) ∙ length-replicate {A = ℕ} 256 0 in
-    omega (arith, c .answer-line .ensures .1 .0, long)
+fits c = still-within _ _ (c .answer-line .ensures .1 .1) (omega (arith, c .answer-line .ensures .1 .0, length-replicate {A = ℕ} 256 0))
 
 array-share-prefix-line : tie.Need-array-share-prefix-line
 array-share-prefix-line c = fits c

@@ -1,0 +1,5 @@
+pub mod Undoing
+pub mod Undone
+pub mod Writing
+pub mod Answers
+pub mod Twice
