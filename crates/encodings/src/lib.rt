@@ -16,7 +16,7 @@ const GROUP: u32 = 128;
 const MORE: u32 = 128;
 
 // How many groups of seven bits hold the significant bits of a number: one for 0, which has none.
-pub fn group_count(v: u32) -> u32
+fn group_count(v: u32) -> u32
     ensures { λ r. ⌜ r ≡ groups v ⌝ }
 {
     if v == 0 {
