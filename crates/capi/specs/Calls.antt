@@ -46,17 +46,17 @@ steps-or-refusal (Refused number) = 65536 + number
 -- ---- a writer
 
 -- a status, and what stands then in the buffer and in the slice of numbers
-pub record Left : Type 0 where
+pub record Answered : Type 0 where
   pub status : ℕ
   pub buffer : List ℕ
   pub numbers : List ℕ
 
-abbrev pub leaving : ℕ → List ℕ → List ℕ → Left
-leaving status buffer numbers = record { status = status; buffer = buffer; numbers = numbers }
+abbrev pub answering : ℕ → List ℕ → List ℕ → Answered
+answering status buffer numbers = record { status = status; buffer = buffer; numbers = numbers }
 
 -- 0, with what was answered in the first slots of the numbers, whose other slots stay as they were; 1 where they are too few, and
 -- all is as it was
-unfoldable pub writing : (List ℕ → Filled) → List ℕ → List ℕ → Left
+unfoldable pub writing : (List ℕ → Filled) → List ℕ → List ℕ → Answered
 writing filled buffer numbers =
-    cond (leb 5 (length numbers)) (leaving 0 (filled buffer .buffer) (over (written-numbers (filled buffer .answer)) numbers))
-    (leaving 1 buffer numbers)
+    cond (leb 5 (length numbers)) (answering 0 (filled buffer .buffer) (over (written-numbers (filled buffer .answer)) numbers))
+    (answering 1 buffer numbers)

@@ -5,7 +5,7 @@ ghost use Rattle.schedules.specs.Schedule.{made, filled};
 ghost use Rattle.stores.specs.Columns.{columns};
 ghost use Rattle.judges.specs.Answer.{answer};
 ghost use Rattle.inverses.specs.Inverse.{inverted};
-ghost use Rattle.capi.specs.Calls.{returning, judging, steps-or-refusal, leaving, writing};
+ghost use Rattle.capi.specs.Calls.{returning, judging, steps-or-refusal, answering, writing};
 
 // What is added to the number of a refusal, so that it is no count of steps.
 const SCHEDULE_REFUSED: u32 = 65536;
@@ -94,7 +94,7 @@ pub extern "C" fn gannetrope_schedule(m: u32, p: u32, buffer: &mut [u8]) -> u32
 // nothing is written.
 #[no_mangle]
 pub extern "C" fn gannetrope_inverse(list: &[u8], buffer: &mut [u8], numbers: &mut [u64]) -> u32
-    ensures { λ r. ⌜ leaving r (now (buffer .exit)) (now (numbers .exit))
+    ensures { λ r. ⌜ answering r (now (buffer .exit)) (now (numbers .exit))
         ≡ writing (inverted (now (list .entry))) (now (buffer .entry)) (now (numbers .entry)) ⌝ }
 {
     if numbers.len() < fields::WRITER_NUMBERS {

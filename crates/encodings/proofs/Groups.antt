@@ -25,7 +25,7 @@ module _ (v low high : ℕ) (from : 2 ^ low ≤ v) (below : v < 2 ^ high) (word 
     | no h ↦ let longer : 2 ^ suc high ≤ 2 ^ m = pow-mono (omega arith) in absurd (omega (arith, longer, pow-suc 2 high))
   ]
 
-  pub significant : (low < 32 - leadingZeros 32 v) × (32 - leadingZeros 32 v ≤ high)
+  significant : (low < 32 - leadingZeros 32 v) × (32 - leadingZeros 32 v ≤ high)
   significant =
       let s = leading-length 32 v word in
       let is : 32 - leadingZeros 32 v ≡ s .0 = omega (arith, s .1) in
@@ -42,18 +42,18 @@ module _ (v : ℕ) where
   unfolding groups
   groups-of more = rw (ne-eqb v 0 (omega arith))
 
-  pub one-group : v < 128 → groups v ≡ 1
+  one-group : v < 128 → groups v ≡ 1
   one-group small = elim (decLt 0 v) [
     | yes more ↦ let bits = significant v 0 7 (omega arith) small (omega arith) in omega (arith, groups-of more, bits .0, bits .1)
     | no none ↦ let is : v ≡ 0 = omega arith in ap groups is ∙ groups-zero
   ]
 
-  pub two-groups : 128 ≤ v → v < 16384 → groups v ≡ 2
+  two-groups : 128 ≤ v → v < 16384 → groups v ≡ 2
   two-groups large small =
       let bits = significant v 7 14 large small (omega arith) in
       omega (arith, groups-of (omega arith), bits .0, bits .1)
 
-  pub three-groups : 16384 ≤ v → v < 2097152 → groups v ≡ 3
+  three-groups : 16384 ≤ v → v < 2097152 → groups v ≡ 3
   three-groups large small =
       let bits = significant v 14 21 large small (omega arith) in
       omega (arith, groups-of (omega arith), bits .0, bits .1)

@@ -29,6 +29,20 @@ use Rattle.inverses.proofs.Writing.{said-circuit}
 
 -- ---- the three answers
 
+-- the inverse is as long as the list
+pub inverse-length : (s : List ℕ) {c : Circuit} {next : ℕ} → decoded base-limits s ≡ read c next → length (inverse-bytes c) ≡ length s
+unfolding inverse-bytes
+inverse-length s {c} e =
+    let l = decoded-ends base-limits s e in
+    omega (
+      arith,
+      list-long (c .qubits) (undone (c .gates)),
+      ap (λ (k : ℕ). length (number-bytes k)) (undone-length (c .gates)),
+      undone-long (c .gates),
+      l .head,
+      l .all,
+    )
+
 module _ (s buffer : List ℕ) where
   pub inverted-unread : {why : ListRefusal} → decoded base-limits s ≡ unread why
       → inverted s buffer ≡ record { answer = Refused (at-byte 1 why); buffer = buffer }
@@ -36,62 +50,61 @@ module _ (s buffer : List ℕ) where
   inverted-unread e = ap (inverted-by buffer) e
 
   module _ {c : Circuit} {next : ℕ} (e : decoded base-limits s ≡ read c next) where
-    -- the inverse is as long as the list
-    pub inverse-length : length (inverse-bytes c) ≡ length s
-    unfolding inverse-bytes
-    inverse-length =
-        let l = decoded-ends base-limits s e in
-        omega (
-          arith,
-          list-long (c .qubits) (undone (c .gates)),
-          ap (λ (k : ℕ). length (number-bytes k)) (undone-length (c .gates)),
-          undone-long (c .gates),
-          l .head,
-          l .all,
-        )
-
     pub inverted-short : length buffer < length s → inverted s buffer ≡ record { answer = Refused (Call 16); buffer = buffer }
     unfolding inverted
-    inverted-short short = ap (inverted-by buffer) e ∙ rw (lt-leb (length (inverse-bytes c)) (length buffer) (omega (arith, inverse-length)))
+    inverted-short short = ap (inverted-by buffer) e ∙ rw (lt-leb (length (inverse-bytes c)) (length buffer) (omega (arith, inverse-length s e)))
 
     pub inverted-long : length s ≤ length buffer → inverted s buffer ≡ record { answer = Bytes (length s); buffer = over (inverse-bytes c) buffer }
     unfolding inverted
     inverted-long room =
-        ap (inverted-by buffer) e ∙ rw (le-leb (length (inverse-bytes c)) (length buffer) (omega (arith, inverse-length)))
-        (ap (λ (k : ℕ). record { answer = Bytes k; buffer = over (inverse-bytes c) buffer }) inverse-length)
+        ap (inverted-by buffer) e ∙ rw (le-leb (length (inverse-bytes c)) (length buffer) (omega (arith, inverse-length s e)))
+        (ap (λ (k : ℕ). record { answer = Bytes k; buffer = over (inverse-bytes c) buffer }) (inverse-length s e))
 
--- ---- what the answer says was written
+-- ---- what an answer of k bytes says
 
-module _ {f : Filled} {k : ℕ} {buffer : List ℕ} (wrote : f .answer ≡ Bytes k) where
-  -- as many bytes as the answer says
-  pub wrote-count : {n : ℕ} → f ≡ record { answer = Bytes n; buffer = buffer } → n ≡ k
-  wrote-count e = let both : Bytes _ ≡ Bytes k = sym (ap (λ (f : Filled). f .answer) e) ∙ wrote in cc
+pub record Wrote (s buffer : List ℕ) (k : ℕ) : Type 0 where
+  pub c : Circuit
+  pub end : ℕ
+  pub was-read : decoded base-limits s ≡ read c end
+  pub long : length (inverse-bytes c) ≡ k
+  pub room : k ≤ length buffer
+  pub filled : inverted s buffer .buffer ≡ over (inverse-bytes c) buffer
 
+module _ (s buffer : List ℕ) {k : ℕ} (answered : inverted s buffer .answer ≡ Bytes k) where
   -- it was not refused
-  pub wrote-none : {why : Refusal} → f ≡ record { answer = Refused why; buffer = buffer } → ⊥
-  wrote-none e =
-      let both : Refused _ ≡ Bytes k = sym (ap (λ (f : Filled). f .answer) e) ∙ wrote in
+  unrefused : {why : Refusal} → inverted s buffer ≡ record { answer = Refused why; buffer = buffer } → ⊥
+  unrefused e =
+      let both : Refused _ ≡ Bytes k = sym (ap (λ (f : Filled). f .answer) e) ∙ answered in
       let z : _≡_ {A = ℕ} 0 1 = cc in
       omega arith
 
--- the buffer has room for what was written
-pub wrote-within : (s buffer : List ℕ) {k : ℕ} → inverted s buffer .answer ≡ Bytes k → k ≤ length (inverted s buffer .buffer)
-wrote-within s buffer {k} wrote = by (decoded base-limits s) refl
-  where
-    by : (r : Reading Circuit) → decoded base-limits s ≡ r → k ≤ length (inverted s buffer .buffer)
-    by (unread why) e = absurd (wrote-none wrote (inverted-unread s buffer e))
-    by (read c next) e = elim (decLe (length s) (length buffer)) [
-      | no short ↦ absurd (wrote-none wrote (inverted-short s buffer e (omega arith)))
-      | yes room ↦
-          let is = inverted-long s buffer e room in
-          omega (
-            arith,
-            wrote-count wrote is,
-            inverse-length s buffer e,
-            ap (λ (f : Filled). length (f .buffer)) is,
-            length-append (inverse-bytes c) (drop (length (inverse-bytes c)) buffer),
-          )
-    ]
+  wrote-by : (r : Reading Circuit) → decoded base-limits s ≡ r → Wrote s buffer k
+  wrote-by (unread why) e = absurd (unrefused (inverted-unread s buffer e))
+  wrote-by (read c next) e = elim (decLe (length s) (length buffer)) [
+    | no short ↦ absurd (unrefused (inverted-short s buffer e (omega arith)))
+    | yes room ↦
+        let is = inverted-long s buffer e room in
+        let both : Bytes (length s) ≡ Bytes k = sym (ap (λ (f : Filled). f .answer) is) ∙ answered in
+        let count : length s ≡ k = cc in
+        record {
+          c = c;
+          end = next;
+          was-read = e;
+          long = inverse-length s e ∙ count;
+          room = omega (arith, count);
+          filled = ap (λ (f : Filled). f .buffer) is;
+        }
+  ]
+
+  pub wrote : Wrote s buffer k
+  wrote = wrote-by (decoded base-limits s) refl
+
+  -- the buffer still has room for it
+  pub wrote-within : k ≤ length (inverted s buffer .buffer)
+  wrote-within =
+      let w = wrote in
+      let bytes = inverse-bytes (w .c) in
+      omega (arith, w .long, ap length (w .filled), length-append bytes (drop (length bytes) buffer))
 
 -- ---- the parts that were written
 
@@ -115,7 +128,7 @@ module _ (s buffer : List ℕ) {n m first : ℕ} (l : Listed (decoded base-limit
         let gates-of-it : Put (gates-bytes (undone (c .gates))) last two three (last + length (gates-bytes (undone (c .gates)))) =
         record { place = refl; stored = gates ∙ ap₂ (λ (k : ℕ) (gs : List Gate). sets two k (gates-bytes (undone gs))) start (ap gates-of (l .was-read)) } in
         let all = put-then qubits-of (put-then count-of gates-of-it) in
-        let long = inverse-length s buffer (l .was-read) in (
+        let long = inverse-length s (l .was-read) in (
           sym (ap (λ (f : Filled). f .answer) answer),
           all .stored ∙ sets-over (inverse-bytes c) buffer (omega (arith, long)) ∙ sym (ap (λ (f : Filled). f .buffer) answer),
         )

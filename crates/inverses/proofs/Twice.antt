@@ -1,16 +1,15 @@
 -- The bytes written are a list of the gates undone, and doing it twice gives back the first bytes.
 -- Assumes nothing.
-use mathlib.Core.Path.{_≡_, refl, sym, _∙_, ap, ap₂, subst}
+use mathlib.Core.Path.{_≡_, refl, sym, _∙_, ap, ap₂, subst, _≡⟨_⟩_, _∎}
 use mathlib.Core.List.{List}
 use Prim.Native.Nat.{ℕ, _≤_}
-use native.Mathlib.Decide.{decLe}
 use native.Mathlib.Omega.{arith}
 use lib.ListN.{length, take, drop}
 use lib.Seq.{take-at}
 use Rattle.gates.specs.Gate.{Gate}
 use Rattle.circuits.specs.declared.Limits.{Limits}
 use Rattle.circuits.specs.Refusals.{base-limits}
-use Rattle.circuits.specs.Reading.{Reading, read, refused as unread, Circuit, decoded}
+use Rattle.circuits.specs.Reading.{read, Circuit, decoded}
 use Rattle.circuits.specs.Within.{Within}
 use Rattle.circuits.proofs.Within.{decoded-within}
 use Rattle.encodings.specs.Encoding.{list-bytes, Bytes as All-bytes, Decodes}
@@ -18,10 +17,10 @@ use Rattle.encodings.proofs.Accepted.{accepted-encoded, base-accepted-iff-encod
 use Rattle.encodings.proofs.Bytes.{encoding-bytes}
 use Rattle.stores.specs.Columns.{over}
 use Rattle.inverses.specs.declared.Written.the-variants.{Bytes}
-use Rattle.inverses.specs.Inverse.{undone, inverse-bytes, Filled, inverted}
+use Rattle.inverses.specs.Inverse.{undone, inverse-bytes, inverted}
 use Rattle.inverses.specs.Claims.{written, Undoes}
 use Rattle.inverses.proofs.Undone.{undone-undone, undone-length, undone-fit}
-use Rattle.inverses.proofs.Answers.{inverted-unread, inverse-length, inverted-short, inverted-long, wrote-count, wrote-none}
+use Rattle.inverses.proofs.Answers.{inverse-length, inverted-long, wrote}
 
 -- ---- the inverse is a list within the limits, and its inverse is the first list
 
@@ -46,7 +45,7 @@ module _ (s : List ℕ) {c : Circuit} {next : ℕ} (e : decoded base-limits s �
       → inverted (inverse-bytes c) buffer ≡ record { answer = Bytes (length s); buffer = over s buffer }
   unfolding inverse-bytes
   inverted-back bytes buffer room =
-      let long = inverse-length s buffer e in
+      let long = inverse-length s e in
       let first : s ≡ list-bytes (c .qubits) (c .gates) =
       accepted-encoded base-limits s bytes (c .qubits) (c .gates) (record { first = c .first; next = next; accepted = e }) .1 in
       let back : list-bytes (c .qubits) (undone (undone (c .gates))) ≡ s = ap (list-bytes (c .qubits)) (undone-undone (c .gates)) ∙ sym first in
@@ -55,27 +54,21 @@ module _ (s : List ℕ) {c : Circuit} {next : ℕ} (e : decoded base-limits s �
 
 -- ---- what a call has written
 
-module _ (list : List ℕ) (bytes : All-bytes list) (buffer : List ℕ) {k : ℕ} (wrote : inverted list buffer .answer ≡ Bytes k) where
-  undoes-by : (r : Reading Circuit) → decoded base-limits list ≡ r → Undoes list buffer k
-  undoes-by (unread why) e = absurd (wrote-none wrote (inverted-unread list buffer e))
-  undoes-by (read c next) e = elim (decLe (length list) (length buffer)) [
-    | no short ↦ absurd (wrote-none wrote (inverted-short list buffer e (omega arith)))
-    | yes long ↦
-        let once = inverted-long list buffer e long in
-        let count : length list ≡ k = wrote-count wrote once in
-        let is : written list buffer k ≡ inverse-bytes c =
-        ap (λ (f : Filled). take k (f .buffer)) once
-        ∙ take-at (inverse-bytes c) (drop (length (inverse-bytes c)) buffer) k (inverse-length list buffer e ∙ count) in
-        record {
-          c = c;
-          end = next;
-          was-read = e;
-          decodes = subst (λ (l : List ℕ). Decodes base-limits l (c .qubits) (undone (c .gates))) (sym is) (inverse-decodes list e);
-          back = λ second room.
-              ap (λ (l : List ℕ). inverted l second) is ∙ inverted-back list e bytes second (omega (arith, count))
-              ∙ ap (λ (n : ℕ). record { answer = Bytes n; buffer = over list second }) count;
-        }
-  ]
-
-  pub undoes : Undoes list buffer k
-  undoes = undoes-by (decoded base-limits list) refl
+pub undoes : (list : List ℕ) → All-bytes list → (buffer : List ℕ) {k : ℕ} → inverted list buffer .answer ≡ Bytes k → Undoes list buffer k
+undoes list bytes buffer {k} answered =
+    let w = wrote list buffer answered in
+    let inverse = inverse-bytes (w .c) in
+    let count : length list ≡ k = sym (inverse-length list (w .was-read)) ∙ w .long in
+    let is : written list buffer k ≡ inverse = ap (take k) (w .filled) ∙ take-at inverse (drop (length inverse) buffer) k (w .long) in
+    record {
+      c = w .c;
+      end = w .end;
+      was-read = w .was-read;
+      decodes = subst (λ (l : List ℕ). Decodes base-limits l (w .c .qubits) (undone (w .c .gates))) (sym is) (inverse-decodes list (w .was-read));
+      back = λ second room.
+          inverted (written list buffer k) second ≡⟨ ap (λ (l : List ℕ). inverted l second) is ⟩
+          inverted inverse second ≡⟨ inverted-back list (w .was-read) bytes second (omega (arith, count)) ⟩
+          record { answer = Bytes (length list); buffer = over list second }
+          ≡⟨ ap (λ (n : ℕ). record { answer = Bytes n; buffer = over list second }) count ⟩
+          record { answer = Bytes k; buffer = over list second } ∎;
+    }
