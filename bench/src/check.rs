@@ -3,6 +3,7 @@
 use crate::agreement::{self, Agreement};
 use crate::families::{self, Case};
 use crate::inputs;
+use crate::inverses;
 use crate::late_refusals::{self, LateRefusal};
 use crate::lent::{LARGEST, Lent};
 use crate::pair::Pair;
@@ -12,8 +13,8 @@ use std::fs;
 use std::io;
 use std::path::PathBuf;
 
-/// Checks the families, the late refusals, and the files of `INPUTS` if it is set. The last line that it prints is
-/// 'N passed, M failed'; it gives whether all is well.
+/// Checks the families, the late refusals, the inverses, and the files of `INPUTS` if it is set. The last line that it
+/// prints is 'N passed, M failed'; it gives whether all is well.
 pub fn all() -> io::Result<bool> {
     let mut checker = Checker { program: program::path(), passed: 0, failed: 0 };
     if checker.program.is_none() {
@@ -24,6 +25,9 @@ pub fn all() -> io::Result<bool> {
     }
     for late in late_refusals::all() {
         checker.check_late_refusal(&late);
+    }
+    for undoing in inverses::all() {
+        checker.count(&undoing.name(), undoing.check());
     }
     for path in inputs::folder().map_or(Ok(vec![]), |folder| inputs::files(&folder))? {
         if let Some(pair) = Pair::from_input(&fs::read(&path)?) {

@@ -87,7 +87,8 @@ fn random_gate(qubits: u8, codes: &[Code], random: &mut Random) -> Gate {
     }
 }
 
-fn random_list(qubits: u8, count: usize, codes: &[Code], random: &mut Random) -> Circuit {
+/// A list of random gates of these codes.
+pub fn random_list(qubits: u8, count: usize, codes: &[Code], random: &mut Random) -> Circuit {
     let gates = (0..count).map(|_| random_gate(qubits, codes, random)).collect();
     Circuit { qubits, gates }
 }

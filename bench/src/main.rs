@@ -11,6 +11,7 @@ mod comparison;
 mod families;
 mod hashed;
 mod inputs;
+mod inverses;
 mod late_refusals;
 mod lent;
 mod machine;
@@ -54,6 +55,7 @@ fn measure() -> io::Result<bool> {
     let mut failures = Vec::new();
     measure_families(&mut failures);
     measure_refusals(&mut failures);
+    measure_inverses(&mut failures);
     match Reference::from_environment() {
         Some(reference) => reference.compare(&mut failures)?,
         None => println!("no reference program: REFERENCE and INPUTS are not both set\n"),
@@ -80,6 +82,14 @@ fn measure_refusals(failures: &mut Vec<String>) {
     let refusals = late_refusals::all();
     let rows = successes(refusals.iter().map(refused_steps::measure), failures);
     print_or_note(refused_steps::summary(&rows), failures);
+    println!();
+}
+
+fn measure_inverses(failures: &mut Vec<String>) {
+    println!("inverses\n{}", inverses::heading());
+    for undoing in inverses::all() {
+        print_or_note(inverses::measure(&undoing), failures);
+    }
     println!();
 }
 
