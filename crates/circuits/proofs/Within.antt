@@ -1,7 +1,7 @@
--- An accepted list is within the limits; how large the numbers of a gate that fits can be.
+-- An accepted list is within the limits; gates that fit, and how large their numbers can be.
 -- Assumes nothing.
 use mathlib.Core.Path.{_≡_, subst}
-use mathlib.Core.List.{List, [], _∷_}
+use mathlib.Core.List.{List, [], _∷_, _++_}
 use Prim.Native.Nat.{ℕ, _<_, _≤_}
 use native.Mathlib.Omega.{arith}
 use lib.ListN.{length}
@@ -50,6 +50,12 @@ decoded-within limits s {c} e =
     let q = count-checked s 0 1 (limits .qubits) bad-qubit-count (a .qubit-count) in
     let m = count-checked s (a .middle) 0 (limits .gates) bad-gate-count (a .gate-count) in
     record { some-qubit = q .1; few-qubits = q .2; few-gates = m .2; all-fit = gates-fit (c .qubits) s (c .first) (c .gates) (a .all-gates) }
+
+-- ---- gates that fit, joined
+
+pub append-fit : (n : ℕ) (gs hs : List Gate) → All-fit n gs → All-fit n hs → All-fit n (gs ++ hs)
+append-fit n [] hs fit fit′ = fit′
+append-fit n (g ∷ gs) hs fit fit′ = (fit .0, append-fit n gs hs (fit .1) fit′)
 
 -- ---- the numbers of a gate that fits
 

@@ -24,7 +24,7 @@ use Rattle.encodings.proofs.Stretches.{Stretch, decoded-parts}
 
 spelled-stretch : (s : List ℕ) → Bytes s → Stretch s (Spelled s)
 spelled-stretch s bytes = record {
-  of-none = λ at. spelled-none s at;
+  of-none = spelled-none s;
   of-number = number-spelled s bytes;
   of-both = join;
 }

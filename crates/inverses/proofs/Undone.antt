@@ -8,6 +8,7 @@ use lib.ListN.{length, length-append}
 use Rattle.gates.specs.Gate.{Gate, All-fit, inverse}
 use Rattle.gates.proofs.Inverses.{inverse-fits, inverse-inverse}
 use Rattle.circuits.specs.Codes.{gate-code}
+use Rattle.circuits.proofs.Within.{append-fit}
 use Rattle.encodings.specs.Encoding.{number-bytes, operand-bytes, gate-bytes, gates-bytes}
 use Rattle.encodings.proofs.Numbers.{one-byte}
 use Rattle.encodings.proofs.Gates.{small-code}
@@ -46,14 +47,9 @@ pub undone-length : (gs : List Gate) → length (undone gs) ≡ length gs
 undone-length [] = refl
 undone-length (g ∷ gs) = omega (arith, length-append (undone gs) (inverse g ∷ []), undone-length gs)
 
-module _ (n : ℕ) where
-  pub append-fit : (gs hs : List Gate) → All-fit n gs → All-fit n hs → All-fit n (gs ++ hs)
-  append-fit [] hs fit fit′ = fit′
-  append-fit (g ∷ gs) hs fit fit′ = (fit .0, append-fit gs hs (fit .1) fit′)
-
-  pub undone-fit : (gs : List Gate) → All-fit n gs → All-fit n (undone gs)
-  undone-fit [] fit = tt
-  undone-fit (g ∷ gs) fit = append-fit (undone gs) (inverse g ∷ []) (undone-fit gs (fit .1)) (inverse-fits n g (fit .0), tt)
+pub undone-fit : (n : ℕ) (gs : List Gate) → All-fit n gs → All-fit n (undone gs)
+undone-fit n [] fit = tt
+undone-fit n (g ∷ gs) fit = append-fit n (undone gs) (inverse g ∷ []) (undone-fit n gs (fit .1)) (inverse-fits n g (fit .0), tt)
 
 -- ---- their bytes
 

@@ -23,7 +23,7 @@ use Rattle.miters.specs.Miter.{list-matrix, exponent, Over, start, left,
 -- ---- inverses up to a power of √2
 
 -- A times B is √2 to the power k times the identity
-abbrev Inverses : ℕ → Matrix → Matrix → ℕ → Type 0
+abbrev pub Inverses : ℕ → Matrix → Matrix → ℕ → Type 0
 Inverses n A B k = Alike n (product n A B) (scaled (√2^ k) identity)
 
 inverses-product : (n : ℕ) (A B C D : Matrix) (j k : ℕ) → Inverses n A B j → Inverses n C D k → Inverses n (product n A C) (product n D B) (j + k)
@@ -44,7 +44,7 @@ identity-inverses n =
     scaled 𝟙 identity ■
 
 -- the product of the inverses of a list's gates, its first gate's leftmost
-unfoldable list-inverse : ℕ → List Gate → Matrix
+unfoldable pub list-inverse : ℕ → List Gate → Matrix
 list-inverse n [] = identity
 list-inverse n (g ∷ gs) = product n (matrix (inverse g)) (list-inverse n gs)
 
@@ -58,7 +58,7 @@ list-times-inverse n (g ∷ gs) h =
     rw (doubled (halves g) (exponent gs), add-comm (halves g + halves g) (exponent gs + exponent gs))
     (inverses-product n _ _ _ _ _ _ (list-times-inverse n gs (h .1)) (gate-inverse n g (h .0)))
 
-inverse-times-list : (n : ℕ) (gs : List Gate) → All-fit n gs → Inverses n (list-inverse n gs) (list-matrix n gs) (exponent gs + exponent gs)
+pub inverse-times-list : (n : ℕ) (gs : List Gate) → All-fit n gs → Inverses n (list-inverse n gs) (list-matrix n gs) (exponent gs + exponent gs)
 unfolding list-matrix list-inverse
 inverse-times-list n [] h = identity-inverses n
 inverse-times-list n (g ∷ gs) h =

@@ -9,6 +9,7 @@ use borrow.Author.Tests.{eqb-true, eq-eqb}
 use lib.Dec.{eqb, leb, leb·suc-zero, leb·suc-suc}
 use lib.ListN.{length, length-append}
 use Rattle.gates.specs.Gate.{Gate, All-fit, inverse}
+use Rattle.circuits.proofs.Within.{append-fit}
 use Rattle.schedules.specs.Schedule.{count, only-steps, fits}
 use Rattle.diagrams.specs.Diagram.{node, diagram}
 use Rattle.diagrams.proofs.Tests.{both-true, true-both}
@@ -127,10 +128,6 @@ run-after : (n : ℕ) (ss more : List Step) (M : Over) → run n (ss ++ more) M 
 run-after n [] more M = refl
 run-after n (s ∷ ss) more M = run-after n ss more (stepped n s M)
 
-fit-after : (n : ℕ) (us us₁ : List Gate) → All-fit n us → All-fit n us₁ → All-fit n (us ++ us₁)
-fit-after n [] us₁ f g = g
-fit-after n (u ∷ us) us₁ f g = (f .0, fit-after n us us₁ (f .1) g)
-
 -- ---- what a run has come to
 
 -- gates that fit, taken along some schedule, come to this matrix
@@ -161,8 +158,8 @@ module _ (n : ℕ) (M : Over) (reached : Reached n M) where
     us = reached .us ++ us₁;
     vs = reached .vs ++ vs₁;
     schedule = reached .schedule ++ t;
-    fit-u = fit-after n (reached .us) us₁ (reached .fit-u) fit-u;
-    fit-v = fit-after n (reached .vs) vs₁ (reached .fit-v) fit-v;
+    fit-u = append-fit n (reached .us) us₁ (reached .fit-u) fit-u;
+    fit-v = append-fit n (reached .vs) vs₁ (reached .fit-v) fit-v;
     fitting = fitting-after (reached .schedule) t (reached .us) (reached .vs) us₁ vs₁ (reached .fitting) fitting;
     comes =
         run n (steps (reached .schedule ++ t) (reached .us ++ us₁) (reached .vs ++ vs₁)) start

@@ -12,7 +12,7 @@ use Rattle.circuits.specs.declared.Limits.{Limits}
 use Rattle.circuits.specs.Refusals.{base-limits}
 use Rattle.circuits.specs.Reading.{read, Circuit, decoded}
 use Rattle.circuits.specs.Within.{Within}
-use Rattle.circuits.proofs.Within.{decoded-within}
+use Rattle.circuits.proofs.Within.{decoded-within, append-fit}
 use Rattle.encodings.specs.Encoding.{list-bytes, Bytes}
 use Rattle.encodings.proofs.Accepted.{accepted-encoded, accepted-iff-encoded, same-list}
 use Rattle.encodings.proofs.Bytes.{encoding-bytes}
@@ -25,7 +25,7 @@ use Rattle.miters.specs.Claims.{Answered}
 use Rattle.judges.specs.Answer.{answer}
 use Rattle.judges.proofs.Demands.{demand-2}
 use Rattle.inverses.specs.Inverse.{undone}
-use Rattle.inverses.proofs.Undone.{undone-length, undone-fit, append-fit}
+use Rattle.inverses.proofs.Undone.{undone-length, undone-fit}
 use Rattle.undoings.specs.Undoing.{followed, empty, Equal-unless-refused, Undoing-equal}
 use Rattle.undoings.proofs.Products.{followed-equal}
 
