@@ -1,31 +1,35 @@
 -- The gate of a step: its data by its code and its side, what stands at an offset, and the list that it is taken from.
 -- Assumes nothing.
-use mathlib.Core.Path.{_≡_, refl, sym, _∙_, ap, subst}
+use mathlib.Core.Path.{_≡_, refl, sym, _∙_, ap, ap₂, subst}
 use mathlib.Core.Bool.{Bool, true, false}
 use mathlib.Core.List.{List}
-use Prim.Native.Nat.{ℕ, _≤_}
+use Prim.Native.Nat.{ℕ, _^_, _<_, _≤_, min, max}
 use native.Mathlib.Omega.{arith}
 use Rattle.gates.specs.declared.Rule.{Rule}
 use Rattle.gates.specs.declared.Decision.{Decision}
 use Rattle.gates.specs.declared.Decision.the-variants.{Known, Unknown}
-use Rattle.gates.specs.Gate.{X, Y, Z, H, S, S†, T, T†, CNOT, CZ, Gate, on, pair, Fits, inverse, halves}
-use Rattle.gates.specs.Rule.{decision, gate-rule, target}
+use Rattle.gates.specs.Gate.{X, Y, Z, H, S, S†, T, T†, CNOT, CZ, Gate, on, pair, toffoli, fredkin, in-mask, Fits, inverse, halves}
+use Rattle.gates.specs.Rule.{decision, gate-rule, target, second}
+use Rattle.gates.proofs.LocalRules.{second-fits}
+use Rattle.gates.proofs.Masks.{names-below}
 use Rattle.gates.proofs.Inverses.{inverse-fits}
 use Rattle.circuits.specs.declared.GateRead.{GateRead}
 use Rattle.circuits.specs.Reading.{gate}
 use Rattle.circuits.specs.Codes.{gate-code}
-use Rattle.circuits.specs.Answers.{control, gate-answer}
+use Rattle.circuits.specs.Answers.{control, first-target, last-target, gate-answer}
 use Rattle.circuits.proofs.Codes.{gate-decided, inverse-code}
 use Rattle.circuits.specs.Remaining.{Remaining}
 use Rattle.circuits.proofs.Remaining.{remaining-next}
 use Rattle.circuits.proofs.Within.{control-small}
 use Rattle.plans.specs.Prepare.{as-number}
-use Rattle.plans.specs.Prepare.{Controls}
+use Rattle.plans.specs.Prepare.{named-mask}
+use Rattle.plans.specs.declared.Action.{Action}
+use Rattle.plans.proofs.Plans.{mask-names, names-fit}
 use Rattle.plans.specs.Layout.{Acts}
 use Rattle.choices.specs.declared.Offsets.{Offsets}
 use Rattle.choices.specs.declared.Taken.{Taken}
 use Rattle.choices.specs.declared.Next.{Next}
-use Rattle.choices.specs.Choosing.{Ruled, sided, Sided, Read, Takes, from-U, from-V, Lists, Chosen}
+use Rattle.choices.specs.Choosing.{Ruled, sided, Sided, Power, Named, Acting, Read, Takes, from-U, from-V, Lists, Chosen}
 
 -- ---- the data of a code
 
@@ -62,6 +66,8 @@ gate-halves (on T q) = refl
 gate-halves (on T† q) = refl
 gate-halves (pair CNOT p q) = refl
 gate-halves (pair CZ p q) = refl
+gate-halves (toffoli mask q) = refl
+gate-halves (fredkin mask p q) = refl
 
 pub halves-few : (g : Gate) → halves g ≤ 1
 halves-few (on X q) = omega arith
@@ -73,6 +79,8 @@ halves-few (on S† q) = omega arith
 halves-few (on T q) = omega arith
 halves-few (on T† q) = omega arith
 halves-few (pair k p q) = omega arith
+halves-few (toffoli mask q) = omega arith
+halves-few (fredkin mask p q) = omega arith
 
 -- ---- a gate that was read, for its side
 
@@ -80,34 +88,55 @@ sided-fits : (n : ℕ) (right : Bool) (g : Gate) → Fits n g → Fits n (sided 
 sided-fits n false g fits = fits
 sided-fits n true g fits = inverse-fits n g fits
 
-sided-controls : (right : Bool) (g : Gate) (c : ℕ) → c ≡ control g → Controls (sided right g) c
-sided-controls false (on k q) c e = tt
-sided-controls false (pair k p q) c e = e
-sided-controls true (on k q) c e = tt
-sided-controls true (pair k p q) c e = e
+-- the inverse names the same qubits
+sided-same : (right : Bool) (g : Gate) → (control g ≡ control (sided right g)) × (first-target g ≡ first-target (sided right g))
+    × (last-target g ≡ last-target (sided right g))
+sided-same false g = (refl, refl, refl)
+sided-same true (on k q) = (refl, refl, refl)
+sided-same true (pair k p q) = (refl, refl, refl)
+sided-same true (toffoli mask q) = (refl, refl, refl)
+sided-same true (fredkin mask p q) = (refl, refl, refl)
 
-sided-target : (right : Bool) (g : Gate) → target g ≡ target (sided right g)
-sided-target false g = refl
-sided-target true (on k q) = refl
-sided-target true (pair k p q) = refl
+-- the targets in order
+ordered : (g : Gate) → (min (first-target g) (last-target g) ≡ target g) × (max (first-target g) (last-target g) ≡ second g)
+ordered (on k q) = (omega arith, omega arith)
+ordered (pair k p q) = (omega arith, omega arith)
+ordered (toffoli mask q) = (omega arith, omega arith)
+ordered (fredkin mask p q) = (refl, refl)
+
+-- a gate on few qubits names them in sixteen bits
+small-mask : (n : ℕ) (g : Gate) → n ≤ 16 → Fits n g → named-mask g < 2 ^ 16
+small-mask n g few fits = names-below 16 (named-mask g) (λ q e. let below = names-fit n g fits q (sym (mask-names n g fits q) ∙ e) in omega arith)
 
 module _ {answer : GateRead} (bytes : List ℕ) (at n side : ℕ) (answered : answer ≡ gate-answer (gate n bytes at)) where
-  pub gate-taken : {code c t next : ℕ} (rule : Rule) → answer ≡ GateRead.Gate code c t next → Sided side code rule
-      → Read bytes at n side (record { action = record { rule = rule; side = side; control = c; target = t }; next = next })
-  gate-taken {code} {c} {t} {next} rule is-gate rules right g next′ s few fits reads =
-      let same : GateRead.Gate code c t next ≡ GateRead.Gate (gate-code g) (control g) (target g) next′ =
+  pub gate-taken : {code c t u next : ℕ} (rule : Rule) (action : Action) → answer ≡ GateRead.Gate code c t u next → Sided side code rule
+      → Acting rule side c t u action → Read bytes at n side (record { action = action; next = next })
+  gate-taken {code} {c} {t} {u} {next} rule action is-gate rules acting right g next′ s few fits reads =
+      let same : GateRead.Gate code c t u next ≡ GateRead.Gate (gate-code g) (control g) (first-target g) (last-target g) next′ =
       sym is-gate ∙ answered ∙ ap gate-answer reads in
       let code-is : code ≡ gate-code g = cc in
       let control-is : c ≡ control g = cc in
-      let target-is : t ≡ target g = cc in
-      let next-is : next ≡ next′ = cc in (
+      let target-is : t ≡ first-target g = cc in
+      let second-is : u ≡ last-target g = cc in
+      let next-is : next ≡ next′ = cc in
+      let h = sided right g in
+      let same-names = sided-same right g in
+      let rule-is : rule ≡ gate-rule h = rules right g s code-is in
+      let fits′ = sided-fits n right g fits in
+      let named : action .named ≡ named-mask h =
+      acting .named-is .1 n h few fits′ (ap (λ (r : Rule). r .operands) rule-is) (control-is ∙ same-names .0) (target-is ∙ same-names .1)
+      (second-is ∙ same-names .2) in
+      let high : action .high ≡ second h =
+      acting .high-is ∙ ap₂ max (target-is ∙ same-names .1) (second-is ∙ same-names .2) ∙ ordered h .1 in (
         record {
-          fits = sided-fits n right g fits;
-          rule = rules right g s code-is;
-          side = s;
-          control = sided-controls right g c control-is;
-          small-control = omega (arith, control-is, control-small n g few fits);
-          target = target-is ∙ sided-target right g;
+          fits = fits′;
+          rule = acting .rule-is ∙ rule-is;
+          side = acting .side-is ∙ s;
+          named = named;
+          small-named = subst (λ (m : ℕ). m < 65536) (sym named) (small-mask n h few fits′);
+          low = acting .low-is ∙ ap₂ min (target-is ∙ same-names .1) (second-is ∙ same-names .2) ∙ ordered h .0;
+          high = high;
+          small-high = let below = second-fits n h fits′ in omega (arith, high, below, few);
         },
         next-is,
       )

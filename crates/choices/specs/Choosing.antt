@@ -2,7 +2,8 @@
 use mathlib.Core.Path.{_≡_}
 use mathlib.Core.Bool.{Bool, true, false}
 use mathlib.Core.List.{List, _∷_}
-use Prim.Native.Nat.{ℕ, zero, suc, _≤_}
+use Prim.Native.Nat.{ℕ, zero, suc, _^_, _<_, _≤_, min, max}
+use Rattle.gates.specs.declared.Operands.{Operands}
 use Rattle.gates.specs.declared.Rule.{Rule}
 use Rattle.gates.specs.declared.Decision.the-variants.{Known}
 use Rattle.gates.specs.Gate.{Gate, Fits, All-fit, inverse}
@@ -10,7 +11,9 @@ use Rattle.gates.specs.Rule.{decision, gate-rule}
 use Rattle.circuits.specs.Reading.{read, gate}
 use Rattle.circuits.specs.Codes.{gate-code}
 use Rattle.circuits.specs.Remaining.{Remaining}
-use Rattle.plans.specs.Prepare.{as-number}
+use Rattle.circuits.specs.Answers.{control, first-target, last-target}
+use Rattle.plans.specs.declared.Action.{Action}
+use Rattle.plans.specs.Prepare.{as-number, named-mask}
 use Rattle.plans.specs.Layout.{Acts}
 use Rattle.choices.specs.declared.Offsets.{Offsets}
 use Rattle.choices.specs.declared.Taken.{Taken}
@@ -27,6 +30,23 @@ sided true g = inverse g
 
 abbrev pub Sided : ℕ → ℕ → Rule → Type 0
 Sided side code r = (right : Bool) (g : Gate) → side ≡ as-number right → code ≡ gate-code g → r ≡ gate-rule (sided right g)
+
+-- 2 to the power of a qubit
+abbrev pub Power : ℕ → ℕ → Type 0
+Power q r = (r ≤ 32768) × (q < 16 → r ≡ 2 ^ q)
+
+-- the qubits of a gate, by what was read of it; a mask never has more than this
+abbrev pub Named : Operands → ℕ → ℕ → ℕ → ℕ → Type 0
+Named operands c t u r =
+    (r ≤ 131071) × ((n : ℕ) (g : Gate) → n ≤ 16 → Fits n g → operands ≡ gate-rule g .operands → c ≡ control g → t ≡ first-target g → u ≡ last-target g
+    → r ≡ named-mask g)
+
+pub record Acting (rule : Rule) (side c t u : ℕ) (r : Action) : Type 0 where
+  pub rule-is : r .rule ≡ rule
+  pub side-is : r .side ≡ side
+  pub named-is : Named (rule .operands) c t u (r .named)
+  pub low-is : r .low ≡ min t u
+  pub high-is : r .high ≡ max t u
 
 -- the gate that stands at an offset
 abbrev pub Read : List ℕ → ℕ → ℕ → ℕ → Taken → Type 0

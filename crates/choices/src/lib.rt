@@ -1,12 +1,14 @@
 // The gate of a step: the next of the list that the schedule names, as it stands there, for the left, or inverted, for the right.
 use circuits::GateRead;
 use gates::Decision;
+use gates::Operands;
 use gates::Phases;
 use gates::Rule;
 use plans::Action;
 ghost use mathlib.Core.Path.{_≡_};
 ghost use Rattle.plans.specs.Prepare.{as-number};
-ghost use Rattle.choices.specs.Choosing.{Ruled, Sided, Read, Chosen};
+ghost use Prim.Native.Nat.{min, max};
+ghost use Rattle.choices.specs.Choosing.{Ruled, Sided, Power, Named, Acting, Read, Chosen};
 
 // Where the gates of the two lists are read next.
 pub struct Offsets {
@@ -33,11 +35,12 @@ fn rule_of(code: u32) -> Rule
     match gates::decide(code) {
         Decision::Known(rule) => rule,
         Decision::Unknown => Rule {
-            qubits: 0,
+            operands: Operands::Qubit,
             mixes: false,
             flips: false,
-            left: Phases { zero: 0, one: 0 },
+            swaps: false,
             right: Phases { zero: 0, one: 0 },
+            left: Phases { zero: 0, one: 0 },
             inverse: 0,
         },
     }
@@ -54,6 +57,60 @@ fn rule_on(side: u32, code: u32) -> Rule
     rule_of(rule.inverse)
 }
 
+// 2 to the power q, for a qubit; 0 past the qubits.
+fn power(q: u32) -> u32
+    ensures { λ r. ⌜ Power q r ⌝ }
+{
+    if q < 16 {
+        return 1 << q;
+    }
+    0
+}
+
+// The mask of the qubits that a gate names, by its control or mask and its targets.
+fn named(operands: Operands, control: u32, target: u32, second: u32) -> u32
+    ensures { λ r. ⌜ Named operands control target second r ⌝ }
+{
+    let own = power(target);
+    match operands {
+        Operands::Qubit => own,
+        Operands::Controlled => power(control) + own,
+        Operands::Masked { least: _, targets } => {
+            let mask = control % 65536;
+            if targets == 2 {
+                return mask + own + power(second);
+            }
+            mask + own
+        }
+    }
+}
+
+fn lower(p: u32, q: u32) -> u32
+    ensures { λ r. ⌜ r ≡ min p q ⌝ }
+{
+    if p < q { p } else { q }
+}
+
+fn higher(p: u32, q: u32) -> u32
+    ensures { λ r. ⌜ r ≡ max p q ⌝ }
+{
+    if p < q { q } else { p }
+}
+
+// A gate's data and qubits for a side.
+fn act(rule: Rule, side: u32, control: u32, target: u32, second: u32) -> Action
+    ensures { λ r. ⌜ Acting rule side control target second r ⌝ }
+{
+    let operands = rule.operands;
+    Action {
+        rule,
+        side,
+        named: named(operands, control, target, second),
+        low: lower(target, second),
+        high: higher(target, second),
+    }
+}
+
 // The gate that stands at an offset of a list on n qubits, for the left or, inverted, for the right.
 fn take(bytes: &[u8], at: usize, n: u32, side: u32) -> Taken
     ensures { λ r. ⌜ Read (now (bytes .entry)) at n side r ⌝ }
@@ -63,23 +120,14 @@ fn take(bytes: &[u8], at: usize, n: u32, side: u32) -> Taken
             code,
             control,
             target,
+            second,
             next,
         } => Taken {
-            action: Action {
-                rule: rule_on(side, code),
-                side,
-                control,
-                target,
-            },
+            action: act(rule_on(side, code), side, control, target, second),
             next,
         },
         GateRead::Refused(_) => Taken {
-            action: Action {
-                rule: rule_of(0),
-                side,
-                control: 0,
-                target: 0,
-            },
+            action: act(rule_of(0), side, 0, 0, 0),
             next: at,
         },
     }

@@ -4,13 +4,12 @@ use mathlib.Core.Path.{_≡_}
 use Prim.Native.Nat.{ℕ}
 use native.Mathlib.Omega.{arith}
 use Rattle.gates.specs.Gate.{Gate}
-use Rattle.gates.specs.Rule.{target}
 use Rattle.circuits.specs.declared.Refusal.{Refusal}
 use Rattle.circuits.specs.declared.NumberRead.{NumberRead}
 use Rattle.circuits.specs.declared.GateRead.{GateRead}
 use Rattle.circuits.specs.Reading.{Reading, read, refused}
 use Rattle.circuits.specs.Codes.{gate-code}
-use Rattle.circuits.specs.Answers.{number-answer, control, gate-answer}
+use Rattle.circuits.specs.Answers.{number-answer, control, first-target, last-target, gate-answer}
 
 module _ {answer : NumberRead} where
   pub number-read : (m : Reading ℕ) {v next : ℕ} → answer ≡ number-answer m → answer ≡ NumberRead.Number v next → m ≡ read v next
@@ -21,18 +20,19 @@ module _ {answer : NumberRead} where
   number-refused (read v next) e f = cc
   number-refused (refused r) e f = cc
 
--- the gate of which these are the code, the control, the target and the offset after it
-pub record Found (m : Reading Gate) (code control-is target-is next : ℕ) : Type 0 where
+-- the gate of which these are the code, the control or mask, the targets and the offset after it
+pub record Found (m : Reading Gate) (code control-is target-is second-is next : ℕ) : Type 0 where
   pub g : Gate
   pub was-read : m ≡ read g next
   pub of-code : gate-code g ≡ code
   pub of-control : control g ≡ control-is
-  pub of-target : target g ≡ target-is
+  pub of-target : first-target g ≡ target-is
+  pub of-second : last-target g ≡ second-is
 
 module _ {answer : GateRead} where
-  pub gate-read : (m : Reading Gate) {code p q next : ℕ}
-      → answer ≡ gate-answer m → answer ≡ GateRead.Gate code p q next → Found m code p q next
-  gate-read (read g next) e f = record { g = g; was-read = cc; of-code = cc; of-control = cc; of-target = cc }
+  pub gate-read : (m : Reading Gate) {code p q r next : ℕ}
+      → answer ≡ gate-answer m → answer ≡ GateRead.Gate code p q r next → Found m code p q r next
+  gate-read (read g next) e f = record { g = g; was-read = cc; of-code = cc; of-control = cc; of-target = cc; of-second = cc }
   gate-read (refused r) e f = let z : _≡_ {A = ℕ} 0 1 = cc in absurd (omega arith)
 
   pub gate-refused : (m : Reading Gate) {r : Refusal} → answer ≡ gate-answer m → answer ≡ GateRead.Refused r → m ≡ refused r

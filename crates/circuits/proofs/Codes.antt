@@ -4,14 +4,17 @@ use mathlib.Core.Path.{_≡_, refl, sym, _∙_, ap, ap₂}
 use mathlib.Core.Logic.{_⊎_, inl, inr, ⊎-elim}
 use mathlib.Core.List.{List}
 use Prim.Native.Nat.{ℕ, zero, suc}
-use Rattle.gates.specs.Gate.{Kind, X, Y, Z, H, S, S†, T, T†, Pair, CNOT, CZ, Gate, on, pair, Meant, one, two, unknown, meant, inverse}
+use Rattle.gates.specs.Gate.{Kind, X, Y, Z, H, S, S†, T, T†, Pair, CNOT, CZ, Gate, on, pair, toffoli, fredkin}
+use Rattle.gates.specs.Gate.{Meant, one, two, mask-one, mask-two, unknown, meant, inverse}
 use Rattle.gates.specs.declared.Rule.{Rule}
 use Rattle.gates.specs.declared.Decision.{Decision}
-use Rattle.gates.specs.Rule.{kind-rule, pair-rule, rule-of, decision, gate-rule}
+use Rattle.gates.specs.declared.Operands.{Operands}
+use Rattle.gates.specs.declared.Operands.the-variants.{Qubit, Controlled, Masked}
+use Rattle.gates.specs.Rule.{kind-rule, pair-rule, toffoli-rule, fredkin-rule, rule-of, decision, gate-rule}
 use Rattle.circuits.specs.declared.GateRead.{GateRead}
-use Rattle.circuits.specs.Reading.{Reading, read, refused, qubit, target-qubit, operands, followed}
+use Rattle.circuits.specs.Reading.{Reading, read, refused, qubit, target-qubit, mask, free-qubit, other-qubit, operands, followed}
 use Rattle.circuits.specs.Codes.{kind-code, pair-code, gate-code}
-use Rattle.circuits.specs.Answers.{gate-answer, placed, named-answer}
+use Rattle.circuits.specs.Answers.{gate-answer, placed, swapped, controlled, targeted, masked, operands-answer}
 
 -- ---- the code of each meaning, and the meaning of each code
 
@@ -35,7 +38,9 @@ pair-meant CZ = refl
 abbrev code-of : Meant → ℕ
 code-of (one k) = kind-code k
 code-of (two k) = pair-code k
-code-of unknown = 10
+code-of mask-one = 10
+code-of mask-two = 11
+code-of unknown = 12
 
 code-of-meant : (code : ℕ) → (code-of (meant code) ≡ code) ⊎ (meant code ≡ unknown)
 unfolding meant
@@ -49,7 +54,9 @@ code-of-meant (suc (suc (suc (suc (suc (suc zero)))))) = inl refl
 code-of-meant (suc (suc (suc (suc (suc (suc (suc zero))))))) = inl refl
 code-of-meant (suc (suc (suc (suc (suc (suc (suc (suc zero)))))))) = inl refl
 code-of-meant (suc (suc (suc (suc (suc (suc (suc (suc (suc zero))))))))) = inl refl
-code-of-meant (suc (suc (suc (suc (suc (suc (suc (suc (suc (suc c)))))))))) = inr refl
+code-of-meant (suc (suc (suc (suc (suc (suc (suc (suc (suc (suc zero)))))))))) = inl refl
+code-of-meant (suc (suc (suc (suc (suc (suc (suc (suc (suc (suc (suc zero))))))))))) = inl refl
+code-of-meant (suc (suc (suc (suc (suc (suc (suc (suc (suc (suc (suc (suc c)))))))))))) = inr refl
 
 pub meant-one : (code : ℕ) {k : Kind} → meant code ≡ one k → code ≡ kind-code k
 meant-one code e = ⊎-elim (λ f. sym f ∙ ap code-of e) (λ f. cc) (code-of-meant code)
@@ -57,13 +64,21 @@ meant-one code e = ⊎-elim (λ f. sym f ∙ ap code-of e) (λ f. cc) (code-of-m
 pub meant-two : (code : ℕ) {k : Pair} → meant code ≡ two k → code ≡ pair-code k
 meant-two code e = ⊎-elim (λ f. sym f ∙ ap code-of e) (λ f. cc) (code-of-meant code)
 
+pub meant-mask-one : (code : ℕ) → meant code ≡ mask-one → code ≡ 10
+meant-mask-one code e = ⊎-elim (λ f. sym f ∙ ap code-of e) (λ f. cc) (code-of-meant code)
+
+pub meant-mask-two : (code : ℕ) → meant code ≡ mask-two → code ≡ 11
+meant-mask-two code e = ⊎-elim (λ f. sym f ∙ ap code-of e) (λ f. cc) (code-of-meant code)
+
 -- ---- what a decision says of the code
 
 -- each gate's code is decided as the gate's data
 pub gate-decided : (g : Gate) → decision (gate-code g) ≡ Decision.Known (gate-rule g)
-unfolding decision
+unfolding decision meant
 gate-decided (on k q) = ap rule-of (kind-meant k)
 gate-decided (pair k p q) = ap rule-of (pair-meant k)
+gate-decided (toffoli mask q) = refl
+gate-decided (fredkin mask p q) = refl
 
 -- the code of the inverse is among them
 pub inverse-code : (g : Gate) → gate-rule g .inverse ≡ gate-code (inverse g)
@@ -77,35 +92,39 @@ inverse-code (on T q) = refl
 inverse-code (on T† q) = refl
 inverse-code (pair CNOT p q) = refl
 inverse-code (pair CZ p q) = refl
+inverse-code (toffoli mask q) = refl
+inverse-code (fredkin mask p q) = refl
 
-pub kind-qubits : (k : Kind) → kind-rule k .qubits ≡ 1
-kind-qubits X = refl
-kind-qubits Y = refl
-kind-qubits Z = refl
-kind-qubits H = refl
-kind-qubits S = refl
-kind-qubits S† = refl
-kind-qubits T = refl
-kind-qubits T† = refl
+pub kind-operands : (k : Kind) → kind-rule k .operands ≡ Qubit
+kind-operands X = refl
+kind-operands Y = refl
+kind-operands Z = refl
+kind-operands H = refl
+kind-operands S = refl
+kind-operands S† = refl
+kind-operands T = refl
+kind-operands T† = refl
 
-pub pair-qubits : (k : Pair) → pair-rule k .qubits ≡ 2
-pair-qubits CNOT = refl
-pair-qubits CZ = refl
+pub pair-operands : (k : Pair) → pair-rule k .operands ≡ Controlled
+pair-operands CNOT = refl
+pair-operands CZ = refl
 
--- the qubits that a decided gate names
-abbrev qubits-of : Decision → ℕ
-qubits-of (Decision.Known rule) = rule .qubits
-qubits-of Decision.Unknown = 0
+-- what follows the code of a decided gate
+abbrev operands-of : Decision → Operands
+operands-of (Decision.Known rule) = rule .operands
+operands-of Decision.Unknown = Qubit
 
 unknown-rule : (m : Meant) → rule-of m ≡ Decision.Unknown → m ≡ unknown
 unknown-rule (one k) e = cc
 unknown-rule (two k) e = cc
+unknown-rule mask-one e = cc
+unknown-rule mask-two e = cc
 unknown-rule unknown e = refl
 
--- ---- the answer for a gate, by its first qubit
+-- ---- the answer for a gate, by what follows its code
 
 module _ (n : ℕ) (s : List ℕ) where
-  single-answer : (k : Kind) (first : Reading ℕ) → named-answer (kind-code k) 1 n s first ≡ gate-answer (followed first (λ q next. read (on k q) next))
+  single-answer : (k : Kind) (first : Reading ℕ) → placed (kind-code k) 0 first ≡ gate-answer (followed first (λ q next. read (on k q) next))
   single-answer k (read q next) = refl
   single-answer k (refused r) = refl
 
@@ -114,20 +133,47 @@ module _ (n : ℕ) (s : List ℕ) where
   placed-answer k p (read q next) = refl
   placed-answer k p (refused r) = refl
 
-  pair-answer : (k : Pair) (first : Reading ℕ) → named-answer (pair-code k) 2 n s first
+  pair-answer : (k : Pair) (first : Reading ℕ) → controlled (pair-code k) n s first
       ≡ gate-answer (followed first (λ p next. followed (target-qubit n p s next) (λ q next. read (pair k p q) next)))
   pair-answer k (read p next) = placed-answer k p (target-qubit n p s next)
   pair-answer k (refused r) = refl
 
-  operands-answer : (start at code : ℕ) {rule : Rule} (m : Meant) → meant code ≡ m → rule-of m ≡ Decision.Known rule
-      → named-answer code (rule .qubits) n s (qubit n s at) ≡ gate-answer (operands n start m s at)
-  operands-answer start at code (one k) e f =
-      ap₂ (λ (c j : ℕ). named-answer c j n s (qubit n s at)) (meant-one code e) (ap qubits-of (sym f) ∙ kind-qubits k)
+  flipped-answer : (m : ℕ) (first : Reading ℕ) → targeted 10 m 1 n s first ≡ gate-answer (followed first (λ q next. read (toffoli m q) next))
+  flipped-answer m (read q next) = refl
+  flipped-answer m (refused r) = refl
+
+  toffoli-answer : (first : Reading ℕ) → masked 10 1 n s first
+      ≡ gate-answer (followed first (λ m next. followed (free-qubit n m s next) (λ q next. read (toffoli m q) next)))
+  toffoli-answer (read m next) = flipped-answer m (free-qubit n m s next)
+  toffoli-answer (refused r) = refl
+
+  last-answer : (m p : ℕ) (second : Reading ℕ) → swapped 11 m p second ≡ gate-answer (followed second (λ q next. read (fredkin m p q) next))
+  last-answer m p (read q next) = refl
+  last-answer m p (refused r) = refl
+
+  swapped-answer : (m : ℕ) (first : Reading ℕ) → targeted 11 m 2 n s first
+      ≡ gate-answer (followed first (λ p next. followed (other-qubit n m p s next) (λ q next. read (fredkin m p q) next)))
+  swapped-answer m (read p next) = last-answer m p (other-qubit n m p s next)
+  swapped-answer m (refused r) = refl
+
+  fredkin-answer : (first : Reading ℕ) → masked 11 2 n s first ≡ gate-answer (followed first (λ m next. followed (free-qubit n m s next) (λ p next.
+      followed (other-qubit n m p s next) (λ q next. read (fredkin m p q) next))))
+  fredkin-answer (read m next) = swapped-answer m (free-qubit n m s next)
+  fredkin-answer (refused r) = refl
+
+  meant-answer : (start at code : ℕ) {rule : Rule} (m : Meant) → meant code ≡ m → rule-of m ≡ Decision.Known rule
+      → operands-answer code n s at (rule .operands) ≡ gate-answer (operands n start m s at)
+  meant-answer start at code (one k) e f =
+      ap₂ (λ (c : ℕ) (o : Operands). operands-answer c n s at o) (meant-one code e) (ap operands-of (sym f) ∙ kind-operands k)
       ∙ single-answer k (qubit n s at)
-  operands-answer start at code (two k) e f =
-      ap₂ (λ (c j : ℕ). named-answer c j n s (qubit n s at)) (meant-two code e) (ap qubits-of (sym f) ∙ pair-qubits k)
+  meant-answer start at code (two k) e f =
+      ap₂ (λ (c : ℕ) (o : Operands). operands-answer c n s at o) (meant-two code e) (ap operands-of (sym f) ∙ pair-operands k)
       ∙ pair-answer k (qubit n s at)
-  operands-answer start at code unknown e f = cc
+  meant-answer start at code mask-one e f =
+      ap₂ (λ (c : ℕ) (o : Operands). operands-answer c n s at o) (meant-mask-one code e) (ap operands-of (sym f)) ∙ toffoli-answer (mask n 2 s at)
+  meant-answer start at code mask-two e f =
+      ap₂ (λ (c : ℕ) (o : Operands). operands-answer c n s at o) (meant-mask-two code e) (ap operands-of (sym f)) ∙ fredkin-answer (mask n 1 s at)
+  meant-answer start at code unknown e f = cc
 
 -- ---- what a match on a decision says
 
@@ -137,6 +183,6 @@ module _ {d : Decision} (code : ℕ) (e : d ≡ decision code) where
   decided-unknown f = unknown-rule (meant code) (sym e ∙ f)
 
   pub decided-known : {rule : Rule} {answer : GateRead} (n start : ℕ) (s : List ℕ) (at : ℕ) → d ≡ Decision.Known rule
-      → answer ≡ named-answer code (rule .qubits) n s (qubit n s at) → answer ≡ gate-answer (operands n start (meant code) s at)
+      → answer ≡ operands-answer code n s at (rule .operands) → answer ≡ gate-answer (operands n start (meant code) s at)
   unfolding decision
-  decided-known n start s at f a = a ∙ operands-answer n s start at code (meant code) refl (sym e ∙ f)
+  decided-known n start s at f a = a ∙ meant-answer n s start at code (meant code) refl (sym e ∙ f)

@@ -7,3 +7,4 @@ pub mod Checks
 pub mod Remaining
 pub mod Within
 pub mod Examples
+pub mod Masks

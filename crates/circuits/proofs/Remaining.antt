@@ -10,14 +10,15 @@ use borrow.Author.Tests.{ltb-false}
 use lib.ListN.{length, getD, drop}
 use lib.Seq.{drop-cons}
 use lib.Dec.{ltb}
-use Rattle.gates.specs.Gate.{Gate, on, pair, Meant, one, two, unknown, meant}
+use Rattle.gates.specs.Gate.{Gate, on, pair, toffoli, fredkin, Meant, one, two, mask-one, mask-two, unknown, meant}
 use Rattle.circuits.specs.declared.Limits.{Limits}
 use Rattle.circuits.specs.Refusals.{bad-qubit-count, bad-gate-count}
-use Rattle.circuits.specs.Reading.{Reader, read, _>>=_, pure, number, qubit, target-qubit, operands, gate, gates}
+use Rattle.circuits.specs.Reading.{Reader, read, _>>=_, pure, number, qubit, target-qubit, mask, free-qubit, other-qubit}
+use Rattle.circuits.specs.Reading.{operands, gate, gates}
 use Rattle.circuits.specs.Remaining.{Remaining}
 use Rattle.circuits.specs.Reading.{count, end, Circuit, body, list, decoded}
 use Rattle.circuits.proofs.Readings.{choice, refused-read, read-value, read-next, parts, Step, gates-step, gates-length}
-use Rattle.circuits.proofs.Checks.{qubit-checked, target-checked, count-checked}
+use Rattle.circuits.proofs.Checks.{qubit-checked, target-checked, mask-checked, free-checked, other-checked, count-checked}
 use Rattle.circuits.proofs.Forms.{number-within}
 
 -- ---- reading stays within the bytes
@@ -43,10 +44,23 @@ qubit-stays n s at q next e h = number-within s at (qubit-checked s at n e .0)
 target-stays : (n p : ℕ) → Stays (target-qubit n p)
 target-stays n p s at q next e h = number-within s at (target-checked s at n p e .0)
 
+mask-stays : (n least : ℕ) → Stays (mask n least)
+mask-stays n least s at m next e h = number-within s at (mask-checked s at n least e .0)
+
+free-stays : (n m : ℕ) → Stays (free-qubit n m)
+free-stays n m s at q next e h = number-within s at (free-checked s at n m e .0)
+
+other-stays : (n m p : ℕ) → Stays (other-qubit n m p)
+other-stays n m p s at q next e h = number-within s at (other-checked s at n m p e .0)
+
 operands-stays : (n start : ℕ) (m : Meant) → Stays (operands n start m)
 operands-stays n start (one k) s at g next e h = stays-then (qubit-stays n) (λ q. pure-stays (on k q)) s at g next e h
 operands-stays n start (two k) s at g next e h =
     stays-then (qubit-stays n) (λ p. stays-then (target-stays n p) (λ q. pure-stays (pair k p q))) s at g next e h
+operands-stays n start mask-one s at g next e h =
+    stays-then (mask-stays n 2) (λ m. stays-then (free-stays n m) (λ q. pure-stays (toffoli m q))) s at g next e h
+operands-stays n start mask-two s at g next e h =
+    stays-then (mask-stays n 1) (λ m. stays-then (free-stays n m) (λ p. stays-then (other-stays n m p) (λ q. pure-stays (fredkin m p q)))) s at g next e h
 operands-stays n start unknown s at g next e h = absurd (refused-read e)
 
 gate-stays : (n : ℕ) → Stays (gate n)

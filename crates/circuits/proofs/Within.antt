@@ -5,15 +5,15 @@ use mathlib.Core.List.{List, [], _∷_, _++_}
 use Prim.Native.Nat.{ℕ, _<_, _≤_}
 use native.Mathlib.Omega.{arith}
 use lib.ListN.{length}
-use Rattle.gates.specs.Gate.{Gate, on, pair, Meant, one, two, unknown, meant, Fits, All-fit}
-use Rattle.gates.specs.Rule.{target}
+use lib.Pow.{pow-mono}
+use Rattle.gates.specs.Gate.{Gate, on, pair, toffoli, fredkin, Meant, one, two, mask-one, mask-two, unknown, meant, Fits, All-fit}
 use Rattle.circuits.specs.declared.Limits.{Limits}
 use Rattle.circuits.specs.Refusals.{bad-qubit-count, bad-gate-count}
-use Rattle.circuits.specs.Reading.{read, number, qubit, target-qubit, operands, gate, gates, Circuit, decoded}
-use Rattle.circuits.specs.Answers.{control}
+use Rattle.circuits.specs.Reading.{read, number, qubit, target-qubit, mask, free-qubit, other-qubit, operands, gate, gates, Circuit, decoded}
+use Rattle.circuits.specs.Answers.{control, first-target, last-target}
 use Rattle.circuits.specs.Within.{Within}
 use Rattle.circuits.proofs.Readings.{refused-read, read-value, parts, gates-step}
-use Rattle.circuits.proofs.Checks.{qubit-checked, target-checked, count-checked}
+use Rattle.circuits.proofs.Checks.{qubit-checked, target-checked, mask-checked, free-checked, other-checked, count-checked}
 use Rattle.circuits.proofs.Remaining.{decoded-accepted}
 
 -- ---- gates that were read fit
@@ -28,6 +28,20 @@ module _ (n : ℕ) (s : List ℕ) where
       let q = parts (target-qubit n (p .value) s (p .next)) (p .second) in
       let t = target-checked s (p .next) n (p .value) (q .first) in
       subst (Fits n) (read-value (q .second)) (qubit-checked s at n (p .first) .1, t .1, t .2)
+  operands-fit start at mask-one e =
+      let m = parts (mask n 2 s at) e in
+      let q = parts (free-qubit n (m .value) s (m .next)) (m .second) in
+      let k = mask-checked s at n 2 (m .first) in
+      let t = free-checked s (m .next) n (m .value) (q .first) in
+      subst (Fits n) (read-value (q .second)) ((k .1, k .2), t .1, t .2)
+  operands-fit start at mask-two e =
+      let m = parts (mask n 1 s at) e in
+      let p = parts (free-qubit n (m .value) s (m .next)) (m .second) in
+      let q = parts (other-qubit n (m .value) (p .value) s (p .next)) (p .second) in
+      let k = mask-checked s at n 1 (m .first) in
+      let t = free-checked s (m .next) n (m .value) (p .first) in
+      let u = other-checked s (p .next) n (m .value) (p .value) (q .first) in
+      subst (Fits n) (read-value (q .second)) ((k .1, k .2), (t .1, t .2), (u .1, u .2), u .3)
   operands-fit start at unknown e = absurd (refused-read e)
 
   pub gate-fits : (at : ℕ) {g : Gate} {next : ℕ} → gate n s at ≡ read g next → Fits n g
@@ -62,7 +76,17 @@ append-fit n (g ∷ gs) hs fit fit′ = (fit .0, append-fit n gs hs (fit .1) fit
 pub control-small : (n : ℕ) (g : Gate) → n ≤ 16 → Fits n g → control g < 65536
 control-small n (on k q) few fits = omega arith
 control-small n (pair k p q) few fits = omega (arith, fits .0)
+control-small n (toffoli m q) few fits = omega (arith, fits .0 .0, pow-mono {i = n} {j = 16} few)
+control-small n (fredkin m p q) few fits = omega (arith, fits .0 .0, pow-mono {i = n} {j = 16} few)
 
-pub target-small : (n : ℕ) (g : Gate) → n ≤ 16 → Fits n g → target g < 16
+pub target-small : (n : ℕ) (g : Gate) → n ≤ 16 → Fits n g → first-target g < 16
 target-small n (on k q) few fits = omega (arith, fits)
 target-small n (pair k p q) few fits = omega (arith, fits .1)
+target-small n (toffoli m q) few fits = omega (arith, fits .1)
+target-small n (fredkin m p q) few fits = omega (arith, fits .1 .0)
+
+pub second-small : (n : ℕ) (g : Gate) → n ≤ 16 → Fits n g → last-target g < 16
+second-small n (on k q) few fits = omega (arith, fits)
+second-small n (pair k p q) few fits = omega (arith, fits .1)
+second-small n (toffoli m q) few fits = omega (arith, fits .1)
+second-small n (fredkin m p q) few fits = omega (arith, fits .2 .0)

@@ -1,6 +1,6 @@
 -- The codes of the gates. Definitions only.
 use Prim.Native.Nat.{ℕ}
-use Rattle.gates.specs.Gate.{Kind, X, Y, Z, H, S, S†, T, T†, Pair, CNOT, CZ, Gate, on, pair}
+use Rattle.gates.specs.Gate.{Kind, X, Y, Z, H, S, S†, T, T†, Pair, CNOT, CZ, Gate, on, pair, toffoli, fredkin}
 
 -- "Gate codes: 0 X, 1 Y, 2 Z, 3 H, 4 S, 5 S†, 6 T, 7 T†, 8 CNOT, 9 CZ."
 abbrev pub kind-code : Kind → ℕ
@@ -20,3 +20,5 @@ pair-code CZ = 9
 abbrev pub gate-code : Gate → ℕ
 gate-code (on k q) = kind-code k
 gate-code (pair k p q) = pair-code k
+gate-code (toffoli mask q) = 10
+gate-code (fredkin mask p q) = 11

@@ -1,14 +1,15 @@
 -- What the bytes of a gate list say: numbers, gates and lists, each read at an offset. Definitions only.
 use mathlib.Core.Bool.{Bool, not, cond, _&&_}
 use mathlib.Core.List.{List, [], _∷_}
-use Prim.Native.Nat.{ℕ, zero, suc, _+_, _*_, _%_}
+use Prim.Native.Nat.{ℕ, zero, suc, _+_, _*_, _%_, _^_}
+use lib.Count.{ones}
 use lib.ListN.{length, drop}
 use lib.Dec.{eqb, leb, ltb}
-use Rattle.gates.specs.Gate.{Gate, on, pair, Meant, one, two, unknown, meant}
+use Rattle.gates.specs.Gate.{Gate, on, pair, toffoli, fredkin, in-mask, Meant, one, two, mask-one, mask-two, unknown, meant}
 use Rattle.circuits.specs.declared.Refusal.{Refusal}
 use Rattle.circuits.specs.declared.Limits.{Limits}
 use Rattle.circuits.specs.Refusals.{refusal, ends-early, not-shortest, bad-qubit-count, bad-gate-count}
-use Rattle.circuits.specs.Refusals.{unknown-code, no-such-qubit, control-is-target, bytes-remain}
+use Rattle.circuits.specs.Refusals.{unknown-code, no-such-qubit, control-is-target, bytes-remain, too-few-controls}
 
 -- ---- readers
 
@@ -81,7 +82,22 @@ qubit n = checked no-such-qubit (λ q. ltb q n) number
 unfoldable pub target-qubit : ℕ → ℕ → Reader ℕ
 target-qubit n p = checked control-is-target (λ q. not (eqb q p)) (qubit n)
 
--- "per gate its code and one qubit, or for 8 and 9 the control and the target", after a code that stands at `start`
+-- a mask of controls: "a mask bit at or past the qubit count", then "too few controls"
+unfoldable pub mask-below : ℕ → Reader ℕ
+mask-below n = checked no-such-qubit (λ m. ltb m (2 ^ n)) number
+
+unfoldable pub mask : ℕ → ℕ → Reader ℕ
+mask n least = checked too-few-controls (λ m. leb least (ones m)) (mask-below n)
+
+-- a target that is not in the mask, and a second one that is not the first either
+unfoldable pub free-qubit : ℕ → ℕ → Reader ℕ
+free-qubit n m = checked control-is-target (λ q. not (in-mask m q)) (qubit n)
+
+unfoldable pub other-qubit : ℕ → ℕ → ℕ → Reader ℕ
+other-qubit n m p = checked control-is-target (λ q. not (eqb q p)) (free-qubit n m)
+
+-- "per gate its code and one qubit, or for 8 and 9 the control and the target"; "Code 10 is a control mask and a target to flip; code 11 is a
+-- control mask and two targets to swap"; after a code that stands at `start`
 abbrev pub operands : ℕ → ℕ → Meant → Reader Gate
 operands n start (one k) = do
   q ← qubit n
@@ -90,6 +106,15 @@ operands n start (two k) = do
   p ← qubit n
   q ← target-qubit n p
   pure (pair k p q)
+operands n start mask-one = do
+  m ← mask n 2
+  q ← free-qubit n m
+  pure (toffoli m q)
+operands n start mask-two = do
+  m ← mask n 1
+  p ← free-qubit n m
+  q ← other-qubit n m p
+  pure (fredkin m p q)
 operands n start unknown = refuse unknown-code start
 
 unfoldable pub gate : ℕ → Reader Gate

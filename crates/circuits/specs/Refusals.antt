@@ -25,21 +25,25 @@ bad-qubit-count = 5
 abbrev pub bad-gate-count : ℕ
 bad-gate-count = 6
 
--- "code over 9"
+-- "code over 11"
 abbrev pub unknown-code : ℕ
 unknown-code = 7
 
--- "qubit not below the count, tested as each is read"
+-- "qubit not below the count, tested as each is read", and "a mask bit at or past the qubit count"
 abbrev pub no-such-qubit : ℕ
 no-such-qubit = 8
 
--- "control equals target"
+-- "control equals target", and "a target in the mask .. or equal to the first target"
 abbrev pub control-is-target : ℕ
 control-is-target = 9
 
 -- "bytes remain"
 abbrev pub bytes-remain : ℕ
 bytes-remain = 10
+
+-- "too few controls"
+abbrev pub too-few-controls : ℕ
+too-few-controls = 17
 
 -- ---- the limits of the base: 16 qubits and 4,096 gates
 

@@ -1,9 +1,13 @@
 // Gate lists as bytes: numbers and gates, read by slice and offset. Any bytes and any offset are safe input.
 ghost use mathlib.Core.Path.{_≡_};
 ghost use Rattle.circuits.specs.Refusals.{base-limits};
-ghost use Rattle.circuits.specs.Reading.{last-group, number, qubit, target-qubit, gate};
-ghost use Rattle.circuits.specs.Answers.{number-answer, placed, named-answer, gate-answer};
+ghost use Prim.Native.Nat.{_^_};
+ghost use lib.Dec.{ltb};
+ghost use Rattle.gates.specs.Gate.{in-mask};
+ghost use Rattle.circuits.specs.Reading.{last-group, number, qubit, target-qubit, mask-below, mask, free-qubit, other-qubit, gate};
+ghost use Rattle.circuits.specs.Answers.{number-answer, placed, swapped, controlled, targeted, masked, operands-answer, gate-answer};
 use gates::Decision;
+use gates::Operands;
 
 // ---- answers
 
@@ -23,18 +27,22 @@ const NO_SUCH_QUBIT: u32 = 8;
 
 const CONTROL_IS_TARGET: u32 = 9;
 
+const TOO_FEW_CONTROLS: u32 = 17;
+
 // A number and the offset after it, or why there is none.
 pub enum NumberRead {
     Number { value: u32, next: usize },
     Refused(Refusal),
 }
 
-// A gate and the offset after it, or why there is none. The control is 0 where the gate names one qubit.
+// A gate and the offset after it, or why there is none. The control is a mask for codes 10 and 11, and 0 where the gate names one qubit; the
+// second target is the target again where there is one only.
 pub enum GateRead {
     Gate {
         code: u32,
         control: u32,
         target: u32,
+        second: u32,
         next: usize,
     },
     Refused(Refusal),
@@ -112,7 +120,7 @@ pub fn read_number(bytes: &[u8], at: usize) -> NumberRead
     })
 }
 
-// ---- gates
+// ---- qubits
 
 // A qubit, below the list's qubit count.
 fn read_qubit(bytes: &[u8], at: usize, qubits: u32) -> NumberRead
@@ -133,6 +141,106 @@ fn read_qubit(bytes: &[u8], at: usize, qubits: u32) -> NumberRead
     }
 }
 
+// ---- masks
+
+// Whether bit q of the mask is set.
+fn in_mask(mask: u32, q: u32) -> bool
+    ensures { λ r. ⌜ r ≡ in-mask mask q ⌝ }
+{
+    if q < 32 {
+        return (mask >> q) % 2 == 1;
+    }
+    false
+}
+
+// Whether no bit of the mask is at or past n.
+fn below_count(mask: u32, n: u32) -> bool
+    ensures { λ r. ⌜ r ≡ ltb mask (2 ^ n) ⌝ }
+{
+    if n < 32 {
+        return (mask >> n) == 0;
+    }
+    true
+}
+
+// A mask of qubits below the list's qubit count.
+fn read_mask_below(bytes: &[u8], at: usize, qubits: u32) -> NumberRead
+    ensures { λ r. ⌜ r ≡ number-answer (mask-below qubits (now (bytes .entry)) at) ⌝ }
+{
+    match read_number(bytes, at) {
+        NumberRead::Refused(why) => NumberRead::Refused(why),
+        NumberRead::Number { value, next } => {
+            if below_count(value, qubits) {
+                NumberRead::Number { value, next }
+            } else {
+                NumberRead::Refused(Refusal {
+                    number: NO_SUCH_QUBIT,
+                    offset: at,
+                })
+            }
+        }
+    }
+}
+
+// A mask of at least so many controls.
+fn read_mask(bytes: &[u8], at: usize, qubits: u32, least: u32) -> NumberRead
+    ensures { λ r. ⌜ r ≡ number-answer (mask qubits least (now (bytes .entry)) at) ⌝ }
+{
+    match read_mask_below(bytes, at, qubits) {
+        NumberRead::Refused(why) => NumberRead::Refused(why),
+        NumberRead::Number { value, next } => {
+            if u32::count_ones(value) < least {
+                NumberRead::Refused(Refusal {
+                    number: TOO_FEW_CONTROLS,
+                    offset: at,
+                })
+            } else {
+                NumberRead::Number { value, next }
+            }
+        }
+    }
+}
+
+// A target that is not in the mask.
+fn read_free(bytes: &[u8], at: usize, qubits: u32, mask: u32) -> NumberRead
+    ensures { λ r. ⌜ r ≡ number-answer (free-qubit qubits mask (now (bytes .entry)) at) ⌝ }
+{
+    match read_qubit(bytes, at, qubits) {
+        NumberRead::Refused(why) => NumberRead::Refused(why),
+        NumberRead::Number { value, next } => {
+            if in_mask(mask, value) {
+                NumberRead::Refused(Refusal {
+                    number: CONTROL_IS_TARGET,
+                    offset: at,
+                })
+            } else {
+                NumberRead::Number { value, next }
+            }
+        }
+    }
+}
+
+// A second target, which is neither in the mask nor the first.
+fn read_other(bytes: &[u8], at: usize, qubits: u32, mask: u32, first: u32) -> NumberRead
+    ensures { λ r. ⌜ r ≡ number-answer (other-qubit qubits mask first (now (bytes .entry)) at) ⌝ }
+{
+    match read_free(bytes, at, qubits, mask) {
+        NumberRead::Refused(why) => NumberRead::Refused(why),
+        NumberRead::Number { value, next } => {
+            if value == first {
+                NumberRead::Refused(Refusal {
+                    number: CONTROL_IS_TARGET,
+                    offset: at,
+                })
+            } else {
+                NumberRead::Number { value, next }
+            }
+        }
+    }
+}
+
+// ---- gates
+
 // The target of a gate that has a control: another qubit.
 fn read_target(bytes: &[u8], at: usize, qubits: u32, code: u32, control: u32) -> GateRead
     ensures { λ r. ⌜ r ≡ placed code control (target-qubit qubits control (now (bytes .entry)) at) ⌝ }
@@ -150,6 +258,7 @@ fn read_target(bytes: &[u8], at: usize, qubits: u32, code: u32, control: u32) ->
                     code,
                     control,
                     target: value,
+                    second: value,
                     next,
                 }
             }
@@ -157,23 +266,110 @@ fn read_target(bytes: &[u8], at: usize, qubits: u32, code: u32, control: u32) ->
     }
 }
 
-// What follows the code of a gate that names one qubit or two.
-fn read_operands(bytes: &[u8], at: usize, qubits: u32, code: u32, named: u32) -> GateRead
-    ensures { λ r. ⌜ r ≡ named-answer code named qubits (now (bytes .entry)) (qubit qubits (now (bytes .entry)) at) ⌝ }
+// A gate of one qubit, after its code.
+fn read_single(bytes: &[u8], at: usize, qubits: u32, code: u32) -> GateRead
+    ensures { λ r. ⌜ r ≡ placed code 0 (qubit qubits (now (bytes .entry)) at) ⌝ }
 {
     match read_qubit(bytes, at, qubits) {
         NumberRead::Refused(why) => GateRead::Refused(why),
+        NumberRead::Number { value, next } => GateRead::Gate {
+            code,
+            control: 0,
+            target: value,
+            second: value,
+            next,
+        },
+    }
+}
+
+// A gate of a control and a target, after its code.
+fn read_controlled(bytes: &[u8], at: usize, qubits: u32, code: u32) -> GateRead
+    ensures { λ r. ⌜ r ≡ controlled code qubits (now (bytes .entry)) (qubit qubits (now (bytes .entry)) at) ⌝ }
+{
+    match read_qubit(bytes, at, qubits) {
+        NumberRead::Refused(why) => GateRead::Refused(why),
+        NumberRead::Number { value, next } => read_target(bytes, next, qubits, code, value),
+    }
+}
+
+// The second target, after the mask and the first.
+fn read_last(bytes: &[u8], at: usize, qubits: u32, code: u32, mask: u32, first: u32) -> GateRead
+    ensures { λ r. ⌜ r ≡ swapped code mask first (other-qubit qubits mask first (now (bytes .entry)) at) ⌝ }
+{
+    match read_other(bytes, at, qubits, mask, first) {
+        NumberRead::Refused(why) => GateRead::Refused(why),
+        NumberRead::Number { value, next } => GateRead::Gate {
+            code,
+            control: mask,
+            target: first,
+            second: value,
+            next,
+        },
+    }
+}
+
+// One target or two, after the mask.
+fn read_targets(
+    bytes: &[u8],
+    at: usize,
+    qubits: u32,
+    code: u32,
+    mask: u32,
+    targets: u32,
+) -> GateRead
+    ensures { λ r. ⌜ r ≡ targeted code mask targets qubits (now (bytes .entry)) (free-qubit qubits mask (now (bytes .entry)) at) ⌝ }
+{
+    match read_free(bytes, at, qubits, mask) {
+        NumberRead::Refused(why) => GateRead::Refused(why),
         NumberRead::Number { value, next } => {
-            if named == 2 {
-                read_target(bytes, next, qubits, code, value)
+            if targets == 2 {
+                read_last(bytes, next, qubits, code, mask, value)
             } else {
                 GateRead::Gate {
                     code,
-                    control: 0,
+                    control: mask,
                     target: value,
+                    second: value,
                     next,
                 }
             }
+        }
+    }
+}
+
+// A mask of controls and the targets, after the code.
+fn read_masked(
+    bytes: &[u8],
+    at: usize,
+    qubits: u32,
+    code: u32,
+    least: u32,
+    targets: u32,
+) -> GateRead
+    ensures { λ r. ⌜ r ≡ masked code targets qubits (now (bytes .entry)) (mask qubits least (now (bytes .entry)) at) ⌝ }
+{
+    match read_mask(bytes, at, qubits, least) {
+        NumberRead::Refused(why) => GateRead::Refused(why),
+        NumberRead::Number { value, next } => read_targets(
+            bytes,
+            next,
+            qubits,
+            code,
+            value,
+            targets,
+        ),
+    }
+}
+
+// What follows the code of a gate.
+fn read_operands(bytes: &[u8], at: usize, qubits: u32, code: u32, operands: Operands) -> GateRead
+    ensures { λ r. ⌜ r ≡ operands-answer code qubits (now (bytes .entry)) at operands ⌝ }
+{
+    match operands {
+        Operands::Qubit => read_single(bytes, at, qubits, code),
+        Operands::Controlled => read_controlled(bytes, at, qubits, code),
+        Operands::Masked { least, targets } => {
+            read_masked(bytes, at, qubits, code, least, targets)
         }
     }
 }
@@ -189,7 +385,10 @@ pub fn read_gate(bytes: &[u8], at: usize, qubits: u32) -> GateRead
                 number: UNKNOWN_CODE,
                 offset: at,
             }),
-            Decision::Known(rule) => read_operands(bytes, next, qubits, value, rule.qubits),
+            Decision::Known(rule) => {
+                let operands = rule.operands;
+                read_operands(bytes, next, qubits, value, operands)
+            }
         },
     }
 }

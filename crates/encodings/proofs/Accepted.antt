@@ -7,6 +7,7 @@ use Prim.Native.Nat.{ℕ, _+_, _<_, _≤_}
 use native.Mathlib.Omega.{arith}
 use borrow.Author.Tests.{le-leb, le-ltb}
 use lib.ListN.{length}
+use lib.Pow.{pow-mono}
 use Rattle.gates.specs.Gate.{Gate}
 use Rattle.circuits.specs.declared.Limits.{Limits}
 use Rattle.circuits.specs.Refusals.{bad-qubit-count, bad-gate-count, base-limits}
@@ -45,8 +46,8 @@ module _ (limits : Limits) where
       let p = decoded-parts s (spelled-stretch s bytes) limits (d .accepted) in
       (decoded-within limits s (d .accepted), whole-is (join (p .of-qubits) (join (p .of-count) (p .of-gates))))
 
-  -- the limits are such that three groups can hold each count
-  module _ (small-qubits : limits .qubits < 2097152) (small-gates : limits .gates < 2097152) where
+  -- the limits are such that three groups can hold each count and each mask
+  module _ (small-qubits : limits .qubits ≤ 21) (small-gates : limits .gates < 2097152) where
     spelled-decodes : (s : List ℕ) (n : ℕ) (gs : List Gate) → Within limits n gs → Spelled s 0 (list-bytes n gs) (length s) → Decodes limits s n gs
     unfolding list-bytes decoded list body
     spelled-decodes s n gs w e =
@@ -58,7 +59,10 @@ module _ (limits : Limits) where
           accepted =
               rw (count-reads 1 (limits .qubits) bad-qubit-count s 0 (w .some-qubit) (w .few-qubits) (omega arith) (q .0))
               (rw (count-reads 0 (limits .gates) bad-gate-count s _ (omega arith) (w .few-gates) (omega arith) (m .0))
-              (rw (gates-read n (omega arith) s _ gs (w .all-fit) (m .1), le-ltb (length s) (length s) (omega arith))));
+              (rw (
+                gates-read n (omega (arith, w .few-qubits)) (pow-mono {i = n} {j = 21} (omega (arith, w .few-qubits))) s _ gs (w .all-fit) (m .1),
+                le-ltb (length s) (length s) (omega arith),
+              )));
         }
 
     -- exactly if

@@ -6,7 +6,7 @@ use Prim.Native.Nat.{ℕ, _+_, _-_, _/_, _%_, _<_}
 use lib.Count.{leadingZeros}
 use lib.ListN.{length}
 use lib.Dec.{eqb, ltb}
-use Rattle.gates.specs.Gate.{Gate, on, pair}
+use Rattle.gates.specs.Gate.{Gate, on, pair, toffoli, fredkin}
 use Rattle.circuits.specs.declared.Limits.{Limits}
 use Rattle.circuits.specs.Reading.{read, decoded}
 use Rattle.circuits.specs.Codes.{gate-code}
@@ -25,10 +25,12 @@ number-bytes v =
 unfoldable pub groups : ℕ → ℕ
 groups v = cond (eqb v 0) 1 ((32 - leadingZeros 32 v + 6) / 7)
 
--- "per gate its code and one qubit, or for 8 and 9 the control and the target"
+-- "per gate its code and one qubit, or for 8 and 9 the control and the target"; for 10 the mask and the target, for 11 the mask and both
 abbrev pub operand-bytes : Gate → List ℕ
 operand-bytes (on k q) = number-bytes q
 operand-bytes (pair k p q) = number-bytes p ++ number-bytes q
+operand-bytes (toffoli mask q) = number-bytes mask ++ number-bytes q
+operand-bytes (fredkin mask p q) = number-bytes mask ++ (number-bytes p ++ number-bytes q)
 
 abbrev pub gate-bytes : Gate → List ℕ
 gate-bytes g = number-bytes (gate-code g) ++ operand-bytes g

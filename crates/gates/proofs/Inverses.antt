@@ -1,6 +1,6 @@
 -- A gate times its inverse, either way round, is a power of 2 times the identity: √2 twice for each H.
 -- Assumes nothing.
-use mathlib.Core.Path.{_≡_, refl, _∙_, ap, ap₂, subst, _≡⟨_⟩_, _∎}
+use mathlib.Core.Path.{_≡_, refl, sym, _∙_, ap, ap₂, subst, _≡⟨_⟩_, _∎}
 use mathlib.Core.Bool.{Bool, true, false, not, cond, _&&_, _||_, Bool·beq}
 use mathlib.Core.List.{[], _∷_}
 use Prim.Native.Nat.{ℕ, zero, suc, _+_, _<_}
@@ -9,15 +9,17 @@ use lib.ListN.{length, set}
 use lib.Seq.{getD-set-same}
 use Rattle.algebra.specs.declared.Entry.{Entry}
 use Rattle.algebra.specs.Entry.{𝟘, 𝟙, neg, _⊕_, _⊗_, turned, times-w8, times-√2, √2^}
-use Rattle.algebra.specs.Matrix.{Bits, product, same, identity}
-use Rattle.algebra.proofs.Rings.{mul-zero}
+use Rattle.algebra.specs.Matrix.{Bits, total, product, same, identity}
+use Rattle.algebra.proofs.Rings.{mul-zero, one-mul}
 use Rattle.algebra.proofs.Entries.{entries, ⊕-zero, cond-one, cond-cond}
 use Rattle.algebra.proofs.Matrices.{Alike, scaled, product-alike, _≈⟨_⟩_, _■}
-use Rattle.gates.specs.Gate.{Kind, X, Y, Z, H, S, S†, T, T†, Pair, CNOT, CZ, Gate, on, pair, is, bit, agree, matrix, Fits, inverse, inverse-kind, halves}
-use Rattle.gates.specs.Rule.{left-matrix, gate-rule, kind-rule, pair-rule, controls, target, all-set}
-use Rattle.gates.proofs.Naming.{is-refl, is-sound, without-self, agree-none, agree-without, agree-set}
+use Rattle.gates.specs.Gate.{Kind, X, Y, Z, H, S, S†, T, T†, Pair, CNOT, CZ, Gate, on, pair, toffoli, fredkin}
+use Rattle.gates.specs.Gate.{is, bit, agree, in-mask, all-set, matrix, Fits, inverse, inverse-kind, halves}
+use Rattle.gates.specs.Rule.{left-matrix, gate-rule, kind-rule, pair-rule, toffoli-rule}
+use Rattle.gates.proofs.Naming.{is-refl, is-sound, without-self, all-set-set, agree-none, agree-without, agree-set}
 use Rattle.gates.proofs.Rules.{four}
-use Rattle.gates.proofs.LocalRules.{where-set, on-target, row-times, on-target-sum, matrix-left, target-fits, all-set-none}
+use Rattle.gates.proofs.LocalRules.{where-set, on-target, row-times, on-target-sum, line-of, matrix-left, all-set-none}
+use Rattle.gates.proofs.LocalRules.{swapped-twice, swapped-line, swapped-sum}
 
 -- ---- the small matrices
 
@@ -48,17 +50,12 @@ pair-undone CNOT false = four _ refl refl refl refl
 pair-undone CZ true = four _ refl refl refl refl
 pair-undone CZ false = four _ refl refl refl refl
 
-gate-undone : (g : Gate) (l : Bits) (x y : Bool)
-    → Undone (left-matrix (gate-rule g)) (left-matrix (gate-rule (inverse g))) (halves g + halves g) (all-set (controls g) l) x y
-gate-undone (on k q) l x y = rw (all-set-none l) (kind-undone k q x y)
-gate-undone (pair k p q) l x y = pair-undone k (all-set (is p) l) x y
+toffoli-undone : (active x y : Bool) → Undone (left-matrix toffoli-rule) (left-matrix toffoli-rule) 0 active x y
+unfolding 𝟘 𝟙 neg _⊕_ _⊗_ turned times-w8 times-√2 √2^
+toffoli-undone true = four _ refl refl refl refl
+toffoli-undone false = four _ refl refl refl refl
 
 -- ---- the product of two small matrices on one target
-
-all-set-set : (P : ℕ → Bool) (l : Bits) (q : ℕ) (b : Bool) → P q ≡ false → all-set P (set l q b) ≡ all-set P l
-all-set-set P [] q b e = refl
-all-set-set P (x ∷ l) zero b e = rw e
-all-set-set P (x ∷ l) (suc q) b e = ap (λ k. (not (P 0) || x) && k) (all-set-set (λ i. P (suc i)) l q b e)
 
 row-times-cond : (m : Bool → Bool → Entry) (x a : Bool) (f : Bool → Entry) → row-times m x (λ b. cond a (f b) 𝟘) ≡ cond a (row-times m x f) 𝟘
 row-times-cond m x true f = refl
@@ -91,62 +88,75 @@ on-target-product n m m′ P q h free r c e =
 agree-same : (q : ℕ) (r c : Bits) → q < length r → (agree (is q) r c && Bool·beq (bit r q) (bit c q)) ≡ same r c
 agree-same q r c h = agree-without (is q) r c q h ∙ ap (λ named. agree named r c) (without-self q) ∙ agree-none r c
 
-controls-target : (n : ℕ) (g : Gate) → Fits n g → controls g (target g) ≡ false
-controls-target n (on k q) h = refl
-controls-target n (pair k p q) h = apart (is p q) refl
-  where
-    apart : (b : Bool) → is p q ≡ b → b ≡ false
-    apart true e = absurd (h .2 (is-sound p q e))
-    apart false e = refl
-
-matrix-alike : (n : ℕ) (g : Gate) → Fits n g → Alike n (matrix g) (on-target (left-matrix (gate-rule g)) (controls g) (target g))
-matrix-alike n g h = record { at = λ r c e f. matrix-left n g h r c e }
-
--- the inverse has the same controls and target
-inverse-alike : (n : ℕ) (g : Gate) → Fits n g → Alike n (matrix (inverse g)) (on-target (left-matrix (gate-rule (inverse g))) (controls g) (target g))
-inverse-alike n (on k q) h = matrix-alike n (on (inverse-kind k) q) h
-inverse-alike n (pair k p q) h = matrix-alike n (pair k p q) h
-
-pub gate-inverse : (n : ℕ) (g : Gate) → Fits n g → Alike n (product n (matrix g) (matrix (inverse g))) (scaled (√2^ (halves g + halves g)) identity)
+-- a small matrix on a target that is no control, times one that undoes it
+on-target-undone : (n : ℕ) (m m′ : Bool → Bool → Entry) (P : ℕ → Bool) (q k : ℕ) → q < n → P q ≡ false
+    → ((l : Bits) (x y : Bool) → Undone m m′ k (all-set P l) x y)
+    → Alike n (product n (on-target m P q) (on-target m′ P q)) (scaled (√2^ k) identity)
 unfolding identity
-gate-inverse n g h =
-    product n (matrix g) (matrix (inverse g)) ≈⟨ product-alike n (matrix-alike n g h) (inverse-alike n g h) ⟩
-    product n (on-target m P q) (on-target m′ P q) ≈⟨ record { at = at-entries } ⟩
-    scaled s (λ r c. cond (same r c) 𝟙 𝟘) ■
+on-target-undone n m m′ P q k q<n free undone = record { at = at-entries }
   where
-    m : Bool → Bool → Entry
-    m = left-matrix (gate-rule g)
-
-    m′ : Bool → Bool → Entry
-    m′ = left-matrix (gate-rule (inverse g))
-
-    P : ℕ → Bool
-    P = controls g
-
-    q : ℕ
-    q = target g
-
-    q<n : q < n
-    q<n = target-fits n g h
-
     s : Entry
-    s = √2^ (halves g + halves g)
+    s = √2^ k
 
     at-entries : (r c : Bits) → length r ≡ n → length c ≡ n → product n (on-target m P q) (on-target m′ P q) r c ≡ s ⊗ cond (same r c) 𝟙 𝟘
     at-entries r c e f =
-        product n (on-target m P q) (on-target m′ P q) r c ≡⟨ on-target-product n m m′ P q q<n (controls-target n g h) r c e ⟩
+        product n (on-target m P q) (on-target m′ P q) r c ≡⟨ on-target-product n m m′ P q q<n free r c e ⟩
         cond (agree (is q) r c) (small-product m m′ (all-set P r) (bit r q) (bit c q)) 𝟘
-        ≡⟨ ap (λ x. cond (agree (is q) r c) x 𝟘) (gate-undone g r (bit r q) (bit c q)) ⟩
+        ≡⟨ ap (λ x. cond (agree (is q) r c) x 𝟘) (undone r (bit r q) (bit c q)) ⟩
         cond (agree (is q) r c) (cond (Bool·beq (bit r q) (bit c q)) s 𝟘) 𝟘 ≡⟨ cond-cond (agree (is q) r c) (Bool·beq (bit r q) (bit c q)) s ⟩
         cond (agree (is q) r c && Bool·beq (bit r q) (bit c q)) s 𝟘 ≡⟨ ap (λ b. cond b s 𝟘) (agree-same q r c (omega (arith, q<n))) ⟩
         cond (same r c) s 𝟘 ≡⟨ cond-one (same r c) s ⟩
         s ⊗ cond (same r c) 𝟙 𝟘 ∎
 
--- ---- the inverse's inverse is the gate
+-- two targets exchanged twice
+swapped-undone : (n : ℕ) (P : ℕ → Bool) (p q : ℕ) → p < n → q < n → P p ≡ false → P q ≡ false
+    → Alike n (product n (swapped-line P p q) (swapped-line P p q)) (scaled (√2^ 0) identity)
+unfolding product identity √2^
+swapped-undone n P p q p<n q<n p-free q-free = record { at = at-entries }
+  where
+    at-entries : (r c : Bits) → length r ≡ n → length c ≡ n
+        → total n (λ x. swapped-line P p q r x ⊗ swapped-line P p q x c) ≡ 𝟙 ⊗ cond (same r c) 𝟙 𝟘
+    at-entries r c e f =
+        swapped-sum n P p q (λ x. swapped-line P p q x c) r e
+        ∙ ap (λ l. cond (same l c) 𝟙 𝟘) (swapped-twice P p q p-free q-free r (omega (arith, p<n)) (omega (arith, q<n)))
+        ∙ sym (one-mul entries (cond (same r c) 𝟙 𝟘))
+
+control-apart : (p q : ℕ) → (p ≡ q → ⊥) → is p q ≡ false
+control-apart p q apart = by-name (is p q) refl
+  where
+    by-name : (b : Bool) → is p q ≡ b → b ≡ false
+    by-name true e = absurd (apart (is-sound p q e))
+    by-name false e = refl
+
+-- the inverse has the same controls and targets
+lines-undone : (n : ℕ) (g : Gate) → Fits n g
+    → Alike n (product n (line-of g (gate-rule g .left)) (line-of (inverse g) (gate-rule (inverse g) .left))) (scaled (√2^ (halves g + halves g)) identity)
+lines-undone n (on k q) h =
+    on-target-undone n (left-matrix (kind-rule k)) (left-matrix (kind-rule (inverse-kind k))) (λ i. false) q (halves (on k q) + halves (on k q)) h refl
+    (λ l x y. rw (all-set-none l) (kind-undone k q x y))
+lines-undone n (pair k p q) h =
+    on-target-undone n (left-matrix (pair-rule k)) (left-matrix (pair-rule k)) (is p) q 0 (h .1) (control-apart p q (h .2))
+    (λ l. pair-undone k (all-set (is p) l))
+lines-undone n (toffoli mask q) h =
+    on-target-undone n (left-matrix toffoli-rule) (left-matrix toffoli-rule) (in-mask mask) q 0 (h .1) (h .2) (λ l. toffoli-undone (all-set (in-mask mask) l))
+lines-undone n (fredkin mask p q) h = swapped-undone n (in-mask mask) p q (h .1 .0) (h .2 .0) (h .1 .1) (h .2 .1)
 
 pub inverse-fits : (n : ℕ) (g : Gate) → Fits n g → Fits n (inverse g)
 inverse-fits n (on k q) h = h
 inverse-fits n (pair k p q) h = h
+inverse-fits n (toffoli mask q) h = h
+inverse-fits n (fredkin mask p q) h = h
+
+matrix-alike : (n : ℕ) (g : Gate) → Fits n g → Alike n (matrix g) (line-of g (gate-rule g .left))
+matrix-alike n g h = record { at = λ r c e f. matrix-left n g h r c e }
+
+pub gate-inverse : (n : ℕ) (g : Gate) → Fits n g → Alike n (product n (matrix g) (matrix (inverse g))) (scaled (√2^ (halves g + halves g)) identity)
+gate-inverse n g h =
+    product n (matrix g) (matrix (inverse g)) ≈⟨ product-alike n (matrix-alike n g h) (matrix-alike n (inverse g) (inverse-fits n g h)) ⟩
+    product n (line-of g (gate-rule g .left)) (line-of (inverse g) (gate-rule (inverse g) .left)) ≈⟨ lines-undone n g h ⟩
+    scaled (√2^ (halves g + halves g)) identity ■
+
+-- ---- the inverse's inverse is the gate
 
 kind-involutive : (k : Kind) (q : ℕ) → (inverse-kind (inverse-kind k) ≡ k) × (halves (on (inverse-kind k) q) ≡ halves (on k q))
 kind-involutive X q = (refl, refl)
@@ -161,10 +171,14 @@ kind-involutive T† q = (refl, refl)
 pub inverse-inverse : (g : Gate) → inverse (inverse g) ≡ g
 inverse-inverse (on k q) = ap (λ j. on j q) (kind-involutive k q .0)
 inverse-inverse (pair k p q) = refl
+inverse-inverse (toffoli mask q) = refl
+inverse-inverse (fredkin mask p q) = refl
 
 pub inverse-halves : (g : Gate) → halves (inverse g) ≡ halves g
 inverse-halves (on k q) = kind-involutive k q .1
 inverse-halves (pair k p q) = refl
+inverse-halves (toffoli mask q) = refl
+inverse-halves (fredkin mask p q) = refl
 
 pub inverse-gate : (n : ℕ) (g : Gate) → Fits n g → Alike n (product n (matrix (inverse g)) (matrix g)) (scaled (√2^ (halves g + halves g)) identity)
 inverse-gate n g h =

@@ -2,3 +2,4 @@ pub mod Naming
 pub mod Rules
 pub mod LocalRules
 pub mod Inverses
+pub mod Masks

@@ -1,25 +1,28 @@
 -- The product with a gate is its local rule, from the left and from the right: one argument over the gate's data.
 -- Assumes nothing.
 use mathlib.Core.Path.{_≡_, refl, sym, _∙_, ap, ap₂, _≡⟨_⟩_, _∎}
-use mathlib.Core.Bool.{Bool, true, false, not, cond, _&&_, Bool·beq, and-true}
+use mathlib.Core.Bool.{Bool, true, false, not, cond, _&&_, _||_, Bool·beq, and-true, and-assoc, true≢false}
 use mathlib.Core.List.{[], _∷_}
-use Prim.Native.Nat.{ℕ, zero, suc, _<_}
+use Prim.Native.Nat.{ℕ, zero, suc, _<_, min, max}
 use native.Mathlib.Omega.{arith}
-use lib.ListN.{length, set}
+use lib.ListN.{length, set, length-set}
 use lib.Seq.{getD-set-same, set-getD}
 use Rattle.algebra.specs.declared.Entry.{Entry}
 use Rattle.algebra.specs.Entry.{𝟘, 𝟙, neg, _⊕_, _⊖_, _⊗_, turned, w8^}
-use Rattle.algebra.specs.Matrix.{Bits, Matrix, total, product}
+use Rattle.algebra.specs.Matrix.{Bits, Matrix, total, product, same}
 use Rattle.algebra.proofs.Rings.{zero-add, one-mul, zero-mul, neg-mul}
 use Rattle.algebra.proofs.Entries.{entries, ⊕-zero, ⊖-is, turned-is, cond-⊗, cond-cond}
-use Rattle.algebra.proofs.Sums.{beq-sym, total-ext}
+use Rattle.algebra.proofs.Sums.{beq-sym, same-refl, same-sound, total-ext, total-pick}
 use Rattle.algebra.proofs.Matrices.{product-transpose}
 use Rattle.gates.specs.declared.Phases.{Phases}
 use Rattle.gates.specs.declared.Rule.{Rule}
-use Rattle.gates.specs.Gate.{Gate, on, pair, table, is, bit, agree, names, named-entry, matrix, Fits}
-use Rattle.gates.specs.Rule.{phase, acting, controlled, pair-rule, gate-rule, controls, target, all-set, mixed, acted}
-use Rattle.gates.proofs.Naming.{without, without-first, agree-sym, agree-without, total-agree, spread-one}
-use Rattle.gates.proofs.Rules.{kind-left, kind-right, pair-left, pair-right}
+use Rattle.gates.specs.Gate.{Kind, X, Y, Z, H, S, S†, T, T†, Pair, CNOT, CZ, Gate, on, pair, toffoli, fredkin, small, table, is, bit, agree, agree-in, in-mask, all-set, exchanged}
+use Rattle.gates.specs.Gate.{names, named-entry, matrix, Fits}
+use Rattle.gates.specs.Rule.{phase, acting, controlled, kind-rule, pair-rule, toffoli-rule, fredkin-rule, gate-rule, controls, target}
+use Rattle.gates.specs.Rule.{second, mixed, moved, acted}
+use Rattle.gates.proofs.Naming.{is-refl, is-sound, without, without-self, without-first, without-controls, exchanged-twice, exchanged-one}
+use Rattle.gates.proofs.Naming.{exchanged-other, exchanged-ordered, all-set-exchanged, all-set-agree, agree-and, agree-sym, agree-none, agree-set, agree-without, total-agree, spread-one}
+use Rattle.gates.proofs.Rules.{kind-left, kind-right, pair-left, pair-right, toffoli-data}
 
 -- ---- a small matrix on a target, where every control is 1
 
@@ -67,10 +70,12 @@ row-times-mixed true f =
     f false ⊕ neg (f true) ≡⟨ sym (⊖-is (f false) (f true)) ⟩
     f false ⊖ f true ∎
 
-acted-is : (rule : Rule) (p : Phases) (P : ℕ → Bool) (q : ℕ) (F : Bits → Entry) (l : Bits)
-    → row-times (where-set (acting rule p) (all-set P l)) (bit l q) (λ b. F (set l q b)) ≡ acted rule p P q F l
+acted-is : (rule : Rule) (p : Phases) (P : ℕ → Bool) (q q′ : ℕ) (F : Bits → Entry) (l : Bits) → rule .swaps ≡ false
+    → row-times (where-set (acting rule p) (all-set P l)) (bit l q) (λ b. F (set l q b)) ≡ acted rule p P q q′ F l
 unfolding acted
-acted-is rule p P q F l = cases (all-set P l) (rule .mixes) (rule .flips)
+acted-is rule p P q q′ F l alone =
+    cases (all-set P l) (rule .mixes) (rule .flips)
+    ∙ ap (λ b. cond (all-set P l) (cond (rule .mixes) (mixed q F l) (cond b (F (exchanged q q′ l)) (moved rule p q F l))) (F l)) (sym alone)
   where
     at : Bool → Entry
     at b = F (set l q b)
@@ -100,25 +105,15 @@ acted-is rule p P q F l = cases (all-set P l) (rule .mixes) (rule .flips)
 -- ---- a gate's matrix as such a matrix, by rows and by columns
 
 -- the entry at the named qubits that a small matrix on the target gives
-abbrev named-by : Gate → (Bool → Bool → Entry) → Matrix
-named-by (on k q) m r c = m (bit r q) (bit c q)
-named-by (pair k p q) m r c = controlled m (bit r p) (bit r q) (bit c p) (bit c q)
+abbrev controlled-by : (ℕ → Bool) → ℕ → (Bool → Bool → Entry) → Matrix
+controlled-by P q m r c = cond (agree-in P r c) (where-set m (all-set P r) (bit r q) (bit c q)) 𝟘
 
-named-left : (g : Gate) (r c : Bits) → named-entry g r c ≡ named-by g (acting (gate-rule g) (gate-rule g .left)) r c
-named-left (on k q) r c = sym (kind-left k (bit r q) (bit c q))
-named-left (pair k p q) r c = sym (pair-left k (bit r p) (bit r q) (bit c p) (bit c q))
-
-named-right : (g : Gate) (r c : Bits) → named-entry g r c ≡ named-by g (acting (gate-rule g) (gate-rule g .right)) c r
-named-right (on k q) r c = sym (kind-right k (bit r q) (bit c q))
-named-right (pair k p q) r c =
-    sym (pair-right k (bit r p) (bit r q) (bit c p) (bit c q))
-    ∙ exchanged (acting (pair-rule k) (pair-rule k .right)) (bit r p) (bit r q) (bit c p) (bit c q)
-  where
-    exchanged : (m : Bool → Bool → Entry) (c t c′ t′ : Bool) → controlled (λ x y. m y x) c t c′ t′ ≡ controlled m c′ t′ c t
-    exchanged m true t true t′ = refl
-    exchanged m true t false t′ = refl
-    exchanged m false t true t′ = refl
-    exchanged m false t false t′ = ap (λ b. cond b 𝟙 𝟘) (beq-sym t t′)
+-- with the row and the column exchanged where there is one control
+exchanged-pair : (m : Bool → Bool → Entry) (c t c′ t′ : Bool) → controlled (λ x y. m y x) c t c′ t′ ≡ controlled m c′ t′ c t
+exchanged-pair m true t true t′ = refl
+exchanged-pair m true t false t′ = refl
+exchanged-pair m false t true t′ = refl
+exchanged-pair m false t false t′ = ap (λ b. cond b 𝟙 𝟘) (beq-sym t t′)
 
 pub all-set-none : (l : Bits) → all-set (λ i. false) l ≡ true
 all-set-none [] = refl
@@ -129,56 +124,270 @@ all-set-one p [] h = absurd (omega arith)
 all-set-one zero (x ∷ l) h = ap (_&&_ x) (all-set-none l) ∙ and-true x
 all-set-one (suc p) (x ∷ l) h = all-set-one p l (omega arith)
 
-named-by-is : (n : ℕ) (g : Gate) (m : Bool → Bool → Entry) → Fits n g → (r c : Bits) → length r ≡ n
-    → cond (agree (names g) r c) (named-by g m r c) 𝟘 ≡ on-target m (controls g) (target g) r c
-named-by-is n (on k q) m h r c e = ap (λ b. cond (agree (is q) r c) (where-set m b (bit r q) (bit c q)) 𝟘) (sym (all-set-none r))
-named-by-is n (pair k p q) m h r c e =
-    cond (agree (names (pair k p q)) r c) (cond (Bool·beq (bit r p) (bit c p)) (here (bit r p)) 𝟘) 𝟘
-    ≡⟨ cond-cond (agree (names (pair k p q)) r c) (Bool·beq (bit r p) (bit c p)) (here (bit r p)) ⟩
-    cond (agree (names (pair k p q)) r c && Bool·beq (bit r p) (bit c p)) (here (bit r p)) 𝟘
-    ≡⟨ ap₂ (λ a b. cond a (here b) 𝟘) (agree-without (names (pair k p q)) r c p (omega arith)) (sym (all-set-one p r (omega arith))) ⟩
-    cond (agree (without (names (pair k p q)) p) r c) (here (all-set (is p) r)) 𝟘
-    ≡⟨ ap (λ named. cond (agree named r c) (here (all-set (is p) r)) 𝟘) (without-first p q (h .2)) ⟩
+-- one control
+one-control : (p q : ℕ) (m : Bool → Bool → Entry) → (p ≡ q → ⊥) → (r c : Bits) → p < length r
+    → cond (agree (λ i. is p i || is q i) r c) (controlled m (bit r p) (bit r q) (bit c p) (bit c q)) 𝟘 ≡ on-target m (is p) q r c
+one-control p q m apart r c h =
+    cond (agree named r c) (cond (Bool·beq (bit r p) (bit c p)) (here (bit r p)) 𝟘) 𝟘
+    ≡⟨ cond-cond (agree named r c) (Bool·beq (bit r p) (bit c p)) (here (bit r p)) ⟩
+    cond (agree named r c && Bool·beq (bit r p) (bit c p)) (here (bit r p)) 𝟘
+    ≡⟨ ap₂ (λ a b. cond a (here b) 𝟘) (agree-without named r c p h) (sym (all-set-one p r h)) ⟩
+    cond (agree (without named p) r c) (here (all-set (is p) r)) 𝟘
+    ≡⟨ ap (λ n. cond (agree n r c) (here (all-set (is p) r)) 𝟘) (without-first p q apart) ⟩
     cond (agree (is q) r c) (here (all-set (is p) r)) 𝟘 ∎
   where
+    named : ℕ → Bool
+    named i = is p i || is q i
+
     here : Bool → Entry
     here active = where-set m active (bit r q) (bit c q)
 
-pub matrix-left : (n : ℕ) (g : Gate) → Fits n g → (r c : Bits) → length r ≡ n
-    → matrix g r c ≡ on-target (acting (gate-rule g) (gate-rule g .left)) (controls g) (target g) r c
-unfolding matrix
-matrix-left n g h r c e =
-    ap (λ x. cond (agree (names g) r c) x 𝟘) (named-left g r c) ∙ named-by-is n g (acting (gate-rule g) (gate-rule g .left)) h r c e
+-- any set of controls that the target is not in
+many-controls : (P : ℕ → Bool) (q : ℕ) (m : Bool → Bool → Entry) → P q ≡ false → (r c : Bits)
+    → cond (agree (λ i. P i || is q i) r c) (controlled-by P q m r c) 𝟘 ≡ on-target m P q r c
+many-controls P q m free r c =
+    cond-cond (agree (λ i. P i || is q i) r c) (agree-in P r c) (where-set m (all-set P r) (bit r q) (bit c q))
+    ∙ ap (λ a. cond a (where-set m (all-set P r) (bit r q) (bit c q)) 𝟘)
+    (agree-and (λ i. P i || is q i) (λ i. not (P i)) r c ∙ ap (λ named. agree named r c) (without-controls P (is q) other))
+  where
+    other : (i : ℕ) → is q i ≡ true → P i ≡ false
+    other i e = ap P (sym (is-sound q i e)) ∙ free
 
-matrix-right : (n : ℕ) (g : Gate) → Fits n g → (r c : Bits) → length c ≡ n
-    → matrix g r c ≡ on-target (acting (gate-rule g) (gate-rule g .right)) (controls g) (target g) c r
+-- the flip of a target where the controls are 1 is X there
+toffoli-entry : (m : Bool → Bool → Entry) → ((x y : Bool) → m x y ≡ small X x y) → (agrees active t t′ : Bool)
+    → cond (agrees && Bool·beq (cond active (not t) t) t′) 𝟙 𝟘 ≡ cond agrees (where-set m active t t′) 𝟘
+toffoli-entry m is-X false active t t′ = refl
+toffoli-entry m is-X true false t t′ = refl
+toffoli-entry m is-X true true false false = sym (is-X false false)
+toffoli-entry m is-X true true false true = sym (is-X false true)
+toffoli-entry m is-X true true true false = sym (is-X true false)
+toffoli-entry m is-X true true true true = sym (is-X true true)
+
+-- ---- two targets: in each row a 1, where the targets' bits are exchanged
+
+module _ (P : ℕ → Bool) (p q : ℕ) where
+  abbrev pub swapped : Bits → Bits
+  swapped l = cond (all-set P l) (exchanged p q l) l
+
+  module _ (p-free : P p ≡ false) (q-free : P q ≡ false) where
+    pub swapped-twice : (l : Bits) → p < length l → q < length l → swapped (swapped l) ≡ l
+    swapped-twice l h k = cases (all-set P l) refl
+      where
+        cases : (b : Bool) → all-set P l ≡ b → swapped (cond b (exchanged p q l) l) ≡ l
+        cases true e = rw (all-set-exchanged P p q l p-free q-free, e) (exchanged-twice p q l h k)
+        cases false e = rw e
+
+    pub swapped-sym : (r c : Bits) → p < length r → q < length r → p < length c → q < length c → same (swapped r) c ≡ same (swapped c) r
+    swapped-sym r c h k h′ k′ = iff (same (swapped r) c) (same (swapped c) r) (turn r c h k) (turn c r h′ k′)
+      where
+        turn : (x y : Bits) → p < length x → q < length x → same (swapped x) y ≡ true → same (swapped y) x ≡ true
+        turn x y hx kx e = ap (λ z. same (swapped z) x) (sym (same-sound (swapped x) y e)) ∙ ap (λ z. same z x) (swapped-twice x hx kx) ∙ same-refl x
+
+        iff : (a b : Bool) → (a ≡ true → b ≡ true) → (b ≡ true → a ≡ true) → a ≡ b
+        iff true b f g = sym (f refl)
+        iff false true f g = g refl
+        iff false false f g = refl
+
+    module _ (apart : p ≡ q → ⊥) (r c : Bits) (h : p < length r) (k : q < length r) where
+      abbrev both : ℕ → Bool
+      both i = is p i || is q i
+
+      length-swapped : (b : Bool) → length (cond b (exchanged p q r) r) ≡ length r
+      length-swapped true = length-set (set r p (bit r q)) q (bit r p) ∙ length-set r p (bit r q)
+      length-swapped false = refl
+
+      named-both : (both p ≡ true) × (both q ≡ true)
+      named-both = (ap (λ b. b || is q p) (is-refl p), last (is p q))
+        where
+          last : (b : Bool) → (b || is q q) ≡ true
+          last true = refl
+          last false = is-refl q
+
+      -- the bits at the targets, and agreement off them, by whether the swap is made
+      at-targets : (b : Bool) → (bit r (cond b q p) ≡ bit (cond b (exchanged p q r) r) p) × (bit r (cond b p q) ≡ bit (cond b (exchanged p q r) r) q)
+          × (agree both r c ≡ agree both (cond b (exchanged p q r) r) c)
+      at-targets true = (
+        sym (exchanged-one p q r apart h k),
+        sym (exchanged-other p q r apart h k),
+        sym (agree-set both (set r p (bit r q)) c q (bit r p) (named-both .1) ∙ agree-set both r c p (bit r q) (named-both .0)),
+      )
+      at-targets false = (refl, refl, refl)
+
+      -- agreement off the targets and in both of them is sameness
+      agree-both : (l : Bits) → p < length l → q < length l
+          → (agree both l c && (Bool·beq (bit l p) (bit c p) && Bool·beq (bit l q) (bit c q))) ≡ same l c
+      agree-both l hl kl =
+          sym (and-assoc (agree both l c) (Bool·beq (bit l p) (bit c p)) (Bool·beq (bit l q) (bit c q)))
+          ∙ ap (λ b. b && Bool·beq (bit l q) (bit c q)) (agree-without both l c p hl ∙ ap (λ n. agree n l c) (without-first p q apart))
+          ∙ agree-without (is q) l c q kl
+          ∙ ap (λ n. agree n l c) (without-self q) ∙ agree-none l c
+
+      swap-agrees : let active = all-set P r in
+          (agree (λ i. P i || both i) r c && (agree-in P r c
+          && (Bool·beq (bit r (cond active q p)) (bit c p) && Bool·beq (bit r (cond active p q)) (bit c q)))) ≡ same (swapped r) c
+      swap-agrees =
+          let long = length-swapped (all-set P r) in
+          let at = at-targets (all-set P r) in
+          let one : Bool = Bool·beq (bit r (cond (all-set P r) q p)) (bit c p) in
+          let two : Bool = Bool·beq (bit r (cond (all-set P r) p q)) (bit c q) in
+          sym (and-assoc (agree (λ i. P i || both i) r c) (agree-in P r c) (one && two))
+          ∙ ap (λ b. b && (one && two)) (agree-and (λ i. P i || both i) (λ i. not (P i)) r c
+          ∙ ap (λ n. agree n r c) (without-controls P both free))
+          ∙ ap₂ (λ x y. agree both r c && (Bool·beq x (bit c p) && Bool·beq y (bit c q))) (at .0) (at .1)
+          ∙ ap (λ b. b && (Bool·beq (bit (swapped r) p) (bit c p) && Bool·beq (bit (swapped r) q) (bit c q))) (at .2)
+          ∙ agree-both (swapped r) (omega (arith, h, long)) (omega (arith, k, long))
+        where
+          free : (i : ℕ) → both i ≡ true → P i ≡ false
+          free i e = by-name (is p i) refl (is q i) refl
+            where
+              by-name : (a : Bool) → is p i ≡ a → (b : Bool) → is q i ≡ b → P i ≡ false
+              by-name true f b g = ap P (sym (is-sound p i f)) ∙ p-free
+              by-name false f true g = ap P (sym (is-sound q i g)) ∙ q-free
+              by-name false f false g = absurd (true≢false (sym e ∙ ap₂ (λ a b. a || b) f g))
+
+-- in row l a 1 where the targets' bits are exchanged
+abbrev pub swapped-line : (ℕ → Bool) → ℕ → ℕ → Matrix
+swapped-line P p q l x = cond (same (swapped P p q l) x) 𝟙 𝟘
+
+pub swapped-sum : (n : ℕ) (P : ℕ → Bool) (p q : ℕ) (F : Bits → Entry) (l : Bits) → length l ≡ n
+    → total n (λ x. swapped-line P p q l x ⊗ F x) ≡ F (swapped P p q l)
+swapped-sum n P p q F l e =
+    total-ext n _ _ (λ x k. cond-⊗ (same (swapped P p q l) x) 𝟙 (F x) ∙ ap (λ y. cond (same (swapped P p q l) x) y 𝟘) (one-mul entries (F x)))
+    ∙ total-pick n (swapped P p q l) F (long (all-set P l))
+  where
+    long : (b : Bool) → length (cond b (exchanged p q l) l) ≡ n
+    long true = length-set (set l p (bit l q)) q (bit l p) ∙ length-set l p (bit l q) ∙ e
+    long false = e
+
+-- ---- a gate's matrix, a line at a time
+
+-- the line of the gate's matrix at l: a row with the left-hand phases, a column with the right-hand ones
+abbrev pub line-of : Gate → Phases → Matrix
+line-of (on k q) p l x = on-target (acting (kind-rule k) p) (λ i. false) q l x
+line-of (pair k p′ q) p l x = on-target (acting (pair-rule k) p) (is p′) q l x
+line-of (toffoli mask q) p l x = on-target (acting toffoli-rule p) (in-mask mask) q l x
+line-of (fredkin mask p′ q) p l x = swapped-line (in-mask mask) p′ q l x
+
+pub matrix-left : (n : ℕ) (g : Gate) → Fits n g → (r c : Bits) → length r ≡ n → matrix g r c ≡ line-of g (gate-rule g .left) r c
 unfolding matrix
-matrix-right n g h r c e =
-    ap₂ (λ a x. cond a x 𝟘) (agree-sym (names g) r c) (named-right g r c) ∙ named-by-is n g (acting (gate-rule g) (gate-rule g .right)) h c r e
+matrix-left n (on k q) h r c e =
+    ap₂ (λ x b. cond (agree (is q) r c) (cond b x (cond (Bool·beq (bit r q) (bit c q)) 𝟙 𝟘)) 𝟘) (sym (kind-left k (bit r q) (bit c q))) (sym (all-set-none r))
+matrix-left n (pair k p q) h r c e =
+    ap (λ x. cond (agree (λ i. is p i || is q i) r c) x 𝟘) (sym (pair-left k (bit r p) (bit r q) (bit c p) (bit c q)))
+    ∙ one-control p q (acting (pair-rule k) (pair-rule k .left)) (h .2) r c (omega (arith, h .0))
+matrix-left n (toffoli mask q) h r c e =
+    ap (λ x. cond (agree (names (toffoli mask q)) r c) x 𝟘)
+    (toffoli-entry (acting toffoli-rule (toffoli-rule .left)) (λ x y. toffoli-data x y .0) (agree-in (in-mask mask) r c) (all-set (in-mask mask) r) (bit r q) (bit c q))
+    ∙ many-controls (in-mask mask) q (acting toffoli-rule (toffoli-rule .left)) (h .2) r c
+matrix-left n (fredkin mask p q) h r c e =
+    cond-cond (agree (names (fredkin mask p q)) r c) _ 𝟙
+    ∙ ap (λ b. cond b 𝟙 𝟘) (swap-agrees (in-mask mask) p q (h .1 .1) (h .2 .1) (h .3) r c (omega (arith, h .1 .0)) (omega (arith, h .2 .0)))
+
+-- a symmetric small matrix on a target that is no control makes a symmetric matrix
+on-target-sym : (m : Bool → Bool → Entry) → ((x y : Bool) → m x y ≡ m y x) → (P : ℕ → Bool) (q : ℕ) → P q ≡ false → (r c : Bits)
+    → on-target m P q r c ≡ on-target m P q c r
+on-target-sym m symmetric P q free r c = cases (agree (is q) r c) refl ∙ ap (λ b. cond b (where-set m (all-set P c) (bit c q) (bit r q)) 𝟘) (agree-sym (is q) r c)
+  where
+    other : (i : ℕ) → is q i ≡ true → P i ≡ false
+    other i e = ap P (sym (is-sound q i e)) ∙ free
+
+    turned-round : (active x y : Bool) → where-set m active x y ≡ where-set m active y x
+    turned-round true x y = symmetric x y
+    turned-round false x y = ap (λ b. cond b 𝟙 𝟘) (beq-sym x y)
+
+    cases : (b : Bool) → agree (is q) r c ≡ b
+        → cond b (where-set m (all-set P r) (bit r q) (bit c q)) 𝟘 ≡ cond b (where-set m (all-set P c) (bit c q) (bit r q)) 𝟘
+    cases true e = ap (λ a. where-set m a (bit r q) (bit c q)) (all-set-agree P (is q) r c other e) ∙ turned-round (all-set P c) (bit r q) (bit c q)
+    cases false e = refl
+
+small-X-sym : (x y : Bool) → small X x y ≡ small X y x
+small-X-sym true true = refl
+small-X-sym true false = refl
+small-X-sym false true = refl
+small-X-sym false false = refl
+
+matrix-right : (n : ℕ) (g : Gate) → Fits n g → (r c : Bits) → length r ≡ n → length c ≡ n → matrix g r c ≡ line-of g (gate-rule g .right) c r
+unfolding matrix
+matrix-right n (on k q) h r c e f =
+    ap₂ (λ a x. cond a x 𝟘) (agree-sym (is q) r c) (sym (kind-right k (bit r q) (bit c q)))
+    ∙ ap (λ b. cond (agree (is q) c r) (where-set (acting (kind-rule k) (kind-rule k .right)) b (bit c q) (bit r q)) 𝟘) (sym (all-set-none c))
+matrix-right n (pair k p q) h r c e f =
+    ap₂ (λ a x. cond a x 𝟘) (agree-sym (λ i. is p i || is q i) r c)
+    (sym (pair-right k (bit r p) (bit r q) (bit c p) (bit c q))
+    ∙ exchanged-pair (acting (pair-rule k) (pair-rule k .right)) (bit r p) (bit r q) (bit c p) (bit c q))
+    ∙ one-control p q (acting (pair-rule k) (pair-rule k .right)) (h .2) c r (omega (arith, h .0))
+matrix-right n (toffoli mask q) h r c e f =
+    matrix-left n (toffoli mask q) h r c e
+    ∙ on-target-sym (acting toffoli-rule (toffoli-rule .right)) (λ x y. toffoli-data x y .0 ∙ small-X-sym x y ∙ sym (toffoli-data y x .0)) (in-mask mask) q
+    (h .2) r c
+matrix-right n (fredkin mask p q) h r c e f =
+    matrix-left n (fredkin mask p q) h r c e
+    ∙ ap (λ b. cond b 𝟙 𝟘) (swapped-sym (in-mask mask) p q (h .1 .1) (h .2 .1) r c
+    (omega (arith, h .1 .0)) (omega (arith, h .2 .0)) (omega (arith, h .1 .0)) (omega (arith, h .2 .0)))
 
 -- ---- the theorem
 
 pub target-fits : (n : ℕ) (g : Gate) → Fits n g → target g < n
 target-fits n (on k q) h = h
 target-fits n (pair k p q) h = h .1
+target-fits n (toffoli mask q) h = h .1
+target-fits n (fredkin mask p q) h = omega (arith, h .1 .0)
+
+pub second-fits : (n : ℕ) (g : Gate) → Fits n g → second g < n
+second-fits n (on k q) h = h
+second-fits n (pair k p q) h = h .1
+second-fits n (toffoli mask q) h = h .1
+second-fits n (fredkin mask p q) h = omega (arith, h .1 .0, h .2 .0)
+
+-- a sum over a line on one target is the local rule, and so is one over a line with two targets
+on-target-acts : (n : ℕ) (rule : Rule) (p : Phases) (P : ℕ → Bool) (q q′ : ℕ) → rule .swaps ≡ false → q < n → (F : Bits → Entry) (l : Bits) → length l ≡ n
+    → total n (λ x. on-target (acting rule p) P q l x ⊗ F x) ≡ acted rule p P q q′ F l
+on-target-acts n rule p P q q′ alone h F l e = on-target-sum n (acting rule p) P q F l h e ∙ acted-is rule p P q q′ F l alone
+
+swapped-acts : (n : ℕ) (P : ℕ → Bool) (p q : ℕ) (ph : Phases) (rule : Rule) → rule .swaps ≡ true → rule .mixes ≡ false → (F : Bits → Entry) (l : Bits) → length l ≡ n
+    → total n (λ x. swapped-line P p q l x ⊗ F x) ≡ acted rule ph P (min p q) (max p q) F l
+unfolding acted
+swapped-acts n P p q ph rule swaps moves F l e =
+    swapped-sum n P p q F l e ∙ cases (all-set P l)
+  where
+    cases : (b : Bool) → F (cond b (exchanged p q l) l)
+        ≡ cond b (cond (rule .mixes) (mixed (min p q) F l) (cond (rule .swaps) (F (exchanged (min p q) (max p q) l)) (moved rule ph (min p q) F l))) (F l)
+    cases true = rw (moves, swaps) (ap F (exchanged-ordered p q l))
+    cases false = refl
+
+kind-alone : (k : Kind) → kind-rule k .swaps ≡ false
+kind-alone X = refl
+kind-alone Y = refl
+kind-alone Z = refl
+kind-alone H = refl
+kind-alone S = refl
+kind-alone S† = refl
+kind-alone T = refl
+kind-alone T† = refl
+
+pair-alone : (k : Pair) → pair-rule k .swaps ≡ false
+pair-alone CNOT = refl
+pair-alone CZ = refl
 
 -- a sum over a line of the gate's matrix, a row or a column, is the local rule with that side's phases
-line-acts : (n : ℕ) (g : Gate) → Fits n g → (p : Phases) (line F : Bits → Entry) (l : Bits) → length l ≡ n
-    → ((x : Bits) → line x ≡ on-target (acting (gate-rule g) p) (controls g) (target g) l x)
-    → total n (λ x. line x ⊗ F x) ≡ acted (gate-rule g) p (controls g) (target g) F l
-line-acts n g h p line F l e is-line =
-    total-ext n _ _ (λ x k. ap (λ y. y ⊗ F x) (is-line x))
-    ∙ on-target-sum n (acting (gate-rule g) p) (controls g) (target g) F l (target-fits n g h) e
-    ∙ acted-is (gate-rule g) p (controls g) (target g) F l
+line-acts : (n : ℕ) (g : Gate) → Fits n g → (p : Phases) (line F : Bits → Entry) (l : Bits) → length l ≡ n → ((x : Bits) → length x ≡ n → line x ≡ line-of g p l x)
+    → total n (λ x. line x ⊗ F x) ≡ acted (gate-rule g) p (controls g) (target g) (second g) F l
+line-acts n g h p line F l e is-line = total-ext n _ _ (λ x k. ap (λ y. y ⊗ F x) (is-line x k)) ∙ acts g h
+  where
+    acts : (g : Gate) → Fits n g → total n (λ x. line-of g p l x ⊗ F x) ≡ acted (gate-rule g) p (controls g) (target g) (second g) F l
+    acts (on k q) h = on-target-acts n (kind-rule k) p (λ i. false) q q (kind-alone k) h F l e
+    acts (pair k p′ q) h = on-target-acts n (pair-rule k) p (is p′) q q (pair-alone k) (h .1) F l e
+    acts (toffoli mask q) h = on-target-acts n toffoli-rule p (in-mask mask) q q refl (h .1) F l e
+    acts (fredkin mask p′ q) h = swapped-acts n (in-mask mask) p′ q p fredkin-rule refl refl F l e
 
 pub product-left : (n : ℕ) (g : Gate) → Fits n g → (M : Matrix) (r c : Bits) → length r ≡ n
-    → product n (matrix g) M r c ≡ acted (gate-rule g) (gate-rule g .left) (controls g) (target g) (λ x. M x c) r
+    → product n (matrix g) M r c ≡ acted (gate-rule g) (gate-rule g .left) (controls g) (target g) (second g) (λ x. M x c) r
 unfolding product
-product-left n g h M r c e = line-acts n g h (gate-rule g .left) (matrix g r) (λ x. M x c) r e (λ x. matrix-left n g h r x e)
+product-left n g h M r c e = line-acts n g h (gate-rule g .left) (matrix g r) (λ x. M x c) r e (λ x k. matrix-left n g h r x e)
 
 pub product-right : (n : ℕ) (g : Gate) → Fits n g → (M : Matrix) (r c : Bits) → length c ≡ n
-    → product n M (matrix g) r c ≡ acted (gate-rule g) (gate-rule g .right) (controls g) (target g) (M r) c
+    → product n M (matrix g) r c ≡ acted (gate-rule g) (gate-rule g .right) (controls g) (target g) (second g) (M r) c
 unfolding product
 product-right n g h M r c e =
     ap (λ A. A r c) (product-transpose n M (matrix g))
-    ∙ line-acts n g h (gate-rule g .right) (λ x. matrix g x c) (M r) c e (λ x. matrix-right n g h x c e)
+    ∙ line-acts n g h (gate-rule g .right) (λ x. matrix g x c) (M r) c e (λ x k. matrix-right n g h x c k e)

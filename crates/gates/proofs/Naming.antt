@@ -3,16 +3,18 @@
 use mathlib.Core.Path.{_≡_, refl, sym, _∙_, ap, ap₂, fun-ext}
 use mathlib.Core.Bool.{Bool, true, false, not, cond, _&&_, _||_, Bool·beq, and-true, and-false, and-assoc, and-not-self, true≢false}
 use mathlib.Core.List.{[], _∷_}
-use Prim.Native.Nat.{ℕ, zero, suc, _<_}
+use Prim.Native.Nat.{ℕ, zero, suc, _<_, min, max}
+use native.Mathlib.Decide.{decLt}
 use native.Mathlib.Omega.{arith}
-use lib.ListN.{length, set}
+use lib.ListN.{length, set, length-set}
+use lib.Seq.{getD-set-same, getD-set-other, set-getD, set-set}
 use Rattle.algebra.specs.declared.Entry.{Entry}
 use Rattle.algebra.specs.Entry.{𝟘, _⊕_}
 use Rattle.algebra.specs.Matrix.{Bits, total, same}
 use Rattle.algebra.proofs.Rings.{zero-add}
 use Rattle.algebra.proofs.Entries.{entries, ⊕-zero}
 use Rattle.algebra.proofs.Sums.{beq-sym, at-bit, total-zero}
-use Rattle.gates.specs.Gate.{is, bit, agree}
+use Rattle.gates.specs.Gate.{is, bit, agree, agree-in, all-set, exchanged}
 
 -- ---- names
 
@@ -42,7 +44,97 @@ without-first p q apart = fun-ext (λ i. cases i (is p i) (is q i) refl refl)
     cases i false true e f = refl
     cases i false false e f = refl
 
+-- a set without controls that are among the named qubits, and a target that is none of them
+pub without-controls : (P rest : ℕ → Bool) → ((i : ℕ) → rest i ≡ true → P i ≡ false) → _≡_ {A = ℕ → Bool} (λ i. (P i || rest i) && not (P i)) rest
+without-controls P rest apart = fun-ext (λ i. cases i (P i) (rest i) refl refl)
+  where
+    cases : (i : ℕ) (a b : Bool) → P i ≡ a → rest i ≡ b → ((a || b) && not a) ≡ b
+    cases i true true e f = absurd (true≢false (sym e ∙ apart i f))
+    cases i true false e f = refl
+    cases i false true e f = refl
+    cases i false false e f = refl
+
+-- ---- bits that are exchanged
+
+-- one of the two is the first
+exchanged-first : (x : Bool) (q : ℕ) (l : Bits) → q < length l → bit (set l q x) q ∷ set (set l q x) q (bit l q) ≡ x ∷ l
+exchanged-first x q l h = ap₂ _∷_ (getD-set-same l q x false h) (set-set l q x (bit l q) ∙ set-getD l q false)
+
+pub exchanged-sym : (p q : ℕ) (l : Bits) → exchanged p q l ≡ exchanged q p l
+exchanged-sym p q [] = refl
+exchanged-sym zero zero (x ∷ l) = refl
+exchanged-sym zero (suc q) (x ∷ l) = refl
+exchanged-sym (suc p) zero (x ∷ l) = refl
+exchanged-sym (suc p) (suc q) (x ∷ l) = ap (λ m. x ∷ m) (exchanged-sym p q l)
+
+-- the lower one first
+pub exchanged-ordered : (p q : ℕ) (l : Bits) → exchanged p q l ≡ exchanged (min p q) (max p q) l
+exchanged-ordered p q l = by-order (decLt p q)
+  where
+    by-order : Dec (p < q) → exchanged p q l ≡ exchanged (min p q) (max p q) l
+    by-order (yes less) = ap₂ (λ a b. exchanged a b l) (omega arith) (omega arith)
+    by-order (no more) = exchanged-sym p q l ∙ ap₂ (λ a b. exchanged a b l) (omega arith) (omega arith)
+
+pub exchanged-twice : (p q : ℕ) (l : Bits) → p < length l → q < length l → exchanged p q (exchanged p q l) ≡ l
+exchanged-twice p q [] h k = refl
+exchanged-twice zero zero (x ∷ l) h k = refl
+exchanged-twice zero (suc q) (x ∷ l) h k = exchanged-first x q l (omega arith)
+exchanged-twice (suc p) zero (x ∷ l) h k = exchanged-first x p l (omega arith)
+exchanged-twice (suc p) (suc q) (x ∷ l) h k = ap (λ m. x ∷ m) (exchanged-twice p q l (omega arith) (omega arith))
+
+module _ (p q : ℕ) (l : Bits) (apart : p ≡ q → ⊥) (p<l : p < length l) (q<l : q < length l) where
+  pub exchanged-one : bit (exchanged p q l) p ≡ bit l q
+  exchanged-one = getD-set-other (set l p (bit l q)) q p (bit l p) false apart ∙ getD-set-same l p (bit l q) false p<l
+
+  pub exchanged-other : bit (exchanged p q l) q ≡ bit l p
+  exchanged-other = getD-set-same (set l p (bit l q)) q (bit l p) false (omega (arith, q<l, length-set l p (bit l q)))
+
+pub all-set-set : (P : ℕ → Bool) (l : Bits) (q : ℕ) (b : Bool) → P q ≡ false → all-set P (set l q b) ≡ all-set P l
+all-set-set P [] q b e = refl
+all-set-set P (x ∷ l) zero b e = rw e
+all-set-set P (x ∷ l) (suc q) b e = ap (λ k. (not (P 0) || x) && k) (all-set-set (λ i. P (suc i)) l q b e)
+
+pub all-set-exchanged : (P : ℕ → Bool) (p q : ℕ) (l : Bits) → P p ≡ false → P q ≡ false → all-set P (exchanged p q l) ≡ all-set P l
+all-set-exchanged P p q l e f = all-set-set P (set l p (bit l q)) q (bit l p) f ∙ all-set-set P l p (bit l q) e
+
 -- ---- agreement
+
+-- bit lists that agree off a set without controls have the same controls
+pub all-set-agree : (P named : ℕ → Bool) (r c : Bits) → ((i : ℕ) → named i ≡ true → P i ≡ false) → agree named r c ≡ true → all-set P r ≡ all-set P c
+all-set-agree P named [] [] free e = refl
+all-set-agree P named [] (y ∷ c) free e = absurd (true≢false (sym e))
+all-set-agree P named (x ∷ r) [] free e = absurd (true≢false (sym e))
+all-set-agree P named (x ∷ r) (y ∷ c) free e =
+    first (P 0) (named 0) x y (free 0) (agree (λ i. named (suc i)) r c) e (all-set-agree (λ i. P (suc i)) (λ i. named (suc i)) r c (λ i. free (suc i)))
+  where
+    first : (a b x y : Bool) → (b ≡ true → a ≡ false) → (k : Bool) → ((b || Bool·beq x y) && k) ≡ true → (k ≡ true → all-set (λ i. P (suc i)) r ≡ all-set (λ i. P (suc i)) c)
+        → ((not a || x) && all-set (λ i. P (suc i)) r) ≡ ((not a || y) && all-set (λ i. P (suc i)) c)
+    first a b x y none false h below = absurd (true≢false (sym h ∙ and-false (b || Bool·beq x y)))
+    first false b x y none true h below = below refl
+    first true true x y none true h below = absurd (true≢false (none refl))
+    first true false true true none true h below = below refl
+    first true false true false none true h below = absurd (true≢false (sym h))
+    first true false false true none true h below = absurd (true≢false (sym h))
+    first true false false false none true h below = refl
+
+-- two agreements at once
+pub agree-and : (j k : ℕ → Bool) (r c : Bits) → (agree j r c && agree k r c) ≡ agree (λ i. j i && k i) r c
+agree-and j k [] [] = refl
+agree-and j k [] (y ∷ c) = refl
+agree-and j k (x ∷ r) [] = refl
+agree-and j k (x ∷ r) (y ∷ c) =
+    first (j 0) (k 0) (Bool·beq x y) (agree (λ i. j (suc i)) r c) (agree (λ i. k (suc i)) r c)
+    ∙ ap (λ b. (j 0 && k 0 || Bool·beq x y) && b) (agree-and (λ i. j (suc i)) (λ i. k (suc i)) r c)
+  where
+    first : (a b e u w : Bool) → (((a || e) && u) && ((b || e) && w)) ≡ ((a && b || e) && (u && w))
+    first true true e u w = refl
+    first true false true u w = refl
+    first true false false true w = refl
+    first true false false false w = refl
+    first false true true true w = refl
+    first false false true true w = refl
+    first false b true false w = refl
+    first false b false u w = refl
 
 pub agree-sym : (named : ℕ → Bool) (r c : Bits) → agree named r c ≡ agree named c r
 agree-sym named [] [] = refl

@@ -4,8 +4,9 @@ use mathlib.Core.Path.{_≡_, refl, subst⁻¹}
 use mathlib.Core.Bool.{Bool, true, false}
 use Prim.Native.Nat.{ℕ}
 use Rattle.algebra.specs.Entry.{𝟙, neg, turned, times-w8}
-use Rattle.gates.specs.Gate.{Kind, X, Y, Z, H, S, S†, T, T†, Pair, CNOT, CZ, Meant, one, two, unknown, meant, small, small-pair, inverse-kind}
-use Rattle.gates.specs.Rule.{kind-rule, pair-rule, left-matrix, right-matrix, controlled, rule-of, decision, Published, Decided}
+use Rattle.gates.specs.Gate.{Kind, X, Y, Z, H, S, S†, T, T†, Pair, CNOT, CZ, Meant, one, two, mask-one, mask-two, unknown, meant}
+use Rattle.gates.specs.Gate.{small, small-pair, inverse-kind}
+use Rattle.gates.specs.Rule.{kind-rule, pair-rule, toffoli-rule, left-matrix, right-matrix, controlled, rule-of, decision, Published, Decided}
 use Rattle.gates.specs.declared.Decision.{Decision}
 
 -- what holds at each of the four pairs of bits holds at every pair
@@ -76,11 +77,20 @@ unfolding meant
 pair-inverse CNOT = refl
 pair-inverse CZ = refl
 
+-- ---- a mask and a target: where the controls are 1, X
+
+pub toffoli-data : (x y : Bool) → (left-matrix toffoli-rule x y ≡ small X x y) × (right-matrix toffoli-rule x y ≡ small X x y)
+unfolding turned times-w8 neg 𝟙
+toffoli-data = four _ (refl, refl) (refl, refl) (refl, refl) (refl, refl)
+
 -- ---- the decision
 
 published : (m : Meant) → Published m (rule-of m)
+unfolding meant
 published (one k) = (kind-left k, kind-right k, kind-inverse k)
 published (two k) = (pair-left k, pair-right k, pair-inverse k)
+published mask-one = ((λ x y. toffoli-data x y .0), (λ x y. toffoli-data x y .1), refl)
+published mask-two = (refl, refl, refl, refl, refl)
 published unknown = tt
 
 pub decided : (code : ℕ) {r : Decision} → r ≡ decision code → Decided code r

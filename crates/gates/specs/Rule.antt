@@ -3,14 +3,17 @@
 use mathlib.Core.Path.{_≡_}
 use mathlib.Core.Bool.{Bool, true, false, not, cond, _&&_, _||_, Bool·beq}
 use mathlib.Core.List.{[], _∷_}
-use Prim.Native.Nat.{ℕ, zero, suc}
+use Prim.Native.Nat.{ℕ, zero, suc, min, max}
 use lib.ListN.{set}
 use Rattle.algebra.specs.declared.Entry.{Entry}
 use Rattle.algebra.specs.Entry.{𝟘, 𝟙, neg, _⊕_, _⊖_, turned, w8^}
 use Rattle.algebra.specs.Matrix.{Bits}
-use Rattle.gates.specs.Gate.{Kind, X, Y, Z, H, S, S†, T, T†, Pair, CNOT, CZ, Gate, on, pair, Meant, one, two, unknown, meant}
-use Rattle.gates.specs.Gate.{is, bit, table, small, small-pair, inverse-kind}
+use Rattle.gates.specs.Gate.{Kind, X, Y, Z, H, S, S†, T, T†, Pair, CNOT, CZ, Gate, on, pair, toffoli, fredkin}
+use Rattle.gates.specs.Gate.{Meant, one, two, mask-one, mask-two, unknown, meant}
+use Rattle.gates.specs.Gate.{is, bit, table, small, small-pair, in-mask, all-set, exchanged, inverse-kind}
 use Rattle.gates.specs.declared.Phases.{Phases}
+use Rattle.gates.specs.declared.Operands.{Operands}
+use Rattle.gates.specs.declared.Operands.the-variants.{Qubit, Controlled, Masked}
 use Rattle.gates.specs.declared.Rule.{Rule}
 use Rattle.gates.specs.declared.Decision.{Decision}
 use Rattle.gates.specs.declared.Decision.the-variants.{Known, Unknown}
@@ -21,29 +24,44 @@ abbrev pub phases : ℕ → ℕ → Phases
 phases z o = record { zero = z; one = o }
 
 -- diagonal: the same from both sides
-abbrev pub diagonal : ℕ → ℕ → ℕ → Rule
-diagonal qubits power undo = record { qubits = qubits; mixes = false; flips = false; left = phases 0 power; right = phases 0 power; inverse = undo }
+abbrev pub diagonal : Operands → ℕ → ℕ → Rule
+diagonal operands power undo =
+    record { operands = operands; mixes = false; flips = false; swaps = false; right = phases 0 power; left = phases 0 power; inverse = undo }
 
-abbrev pub flipping : ℕ → Phases → Phases → ℕ → Rule
-flipping qubits l r undo = record { qubits = qubits; mixes = false; flips = true; left = l; right = r; inverse = undo }
+abbrev pub flipping : Operands → Phases → Phases → ℕ → Rule
+flipping operands r l undo = record { operands = operands; mixes = false; flips = true; swaps = false; right = r; left = l; inverse = undo }
+
+-- a gate that mixes its target's two entries, or exchanges the bits of its two targets
+abbrev pub unturned : Operands → Bool → Bool → ℕ → Rule
+unturned operands mixes swaps undo =
+    record { operands = operands; mixes = mixes; flips = false; swaps = swaps; right = phases 0 0; left = phases 0 0; inverse = undo }
 
 abbrev pub kind-rule : Kind → Rule
-kind-rule X = flipping 1 (phases 0 0) (phases 0 0) 0
-kind-rule Y = flipping 1 (phases 6 2) (phases 2 6) 1
-kind-rule Z = diagonal 1 4 2
-kind-rule H = record { qubits = 1; mixes = true; flips = false; left = phases 0 0; right = phases 0 0; inverse = 3 }
-kind-rule S = diagonal 1 2 5
-kind-rule S† = diagonal 1 6 4
-kind-rule T = diagonal 1 1 7
-kind-rule T† = diagonal 1 7 6
+kind-rule X = flipping Qubit (phases 0 0) (phases 0 0) 0
+kind-rule Y = flipping Qubit (phases 2 6) (phases 6 2) 1
+kind-rule Z = diagonal Qubit 4 2
+kind-rule H = unturned Qubit true false 3
+kind-rule S = diagonal Qubit 2 5
+kind-rule S† = diagonal Qubit 6 4
+kind-rule T = diagonal Qubit 1 7
+kind-rule T† = diagonal Qubit 7 6
 
 abbrev pub pair-rule : Pair → Rule
-pair-rule CNOT = flipping 2 (phases 0 0) (phases 0 0) 8
-pair-rule CZ = diagonal 2 4 9
+pair-rule CNOT = flipping Controlled (phases 0 0) (phases 0 0) 8
+pair-rule CZ = diagonal Controlled 4 9
+
+-- "Code 10 needs at least two controls and code 11 at least one"
+abbrev pub toffoli-rule : Rule
+toffoli-rule = flipping (Masked 2 1) (phases 0 0) (phases 0 0) 10
+
+abbrev pub fredkin-rule : Rule
+fredkin-rule = unturned (Masked 1 2) false true 11
 
 abbrev pub rule-of : Meant → Decision
 rule-of (one k) = Known (kind-rule k)
 rule-of (two k) = Known (pair-rule k)
+rule-of mask-one = Known toffoli-rule
+rule-of mask-two = Known fredkin-rule
 rule-of unknown = Unknown
 
 unfoldable pub decision : ℕ → Decision
@@ -85,6 +103,12 @@ Published (two k) (Known rule) =
     × ((c t c′ t′ : Bool) → controlled (right-matrix rule) c t c′ t′ ≡ small-pair k c t c′ t′)
     × (meant (rule .inverse) ≡ two k)
 Published (two k) Unknown = ⊥
+Published mask-one (Known rule) =
+    ((x y : Bool) → left-matrix rule x y ≡ small X x y) × ((x y : Bool) → right-matrix rule x y ≡ small X x y) × (meant (rule .inverse) ≡ mask-one)
+Published mask-one Unknown = ⊥
+Published mask-two (Known rule) = (rule .swaps ≡ true) × (rule .mixes ≡ false) × (rule .left ≡ phases 0 0) × (rule .right ≡ phases 0 0)
+    × (meant (rule .inverse) ≡ mask-two)
+Published mask-two Unknown = ⊥
 Published unknown (Known rule) = ⊥
 Published unknown Unknown = Unit {0}
 
@@ -97,19 +121,27 @@ pub record Decided (code : ℕ) (r : Decision) : Type 0 where
 abbrev pub gate-rule : Gate → Rule
 gate-rule (on k q) = kind-rule k
 gate-rule (pair k p q) = pair-rule k
+gate-rule (toffoli mask q) = toffoli-rule
+gate-rule (fredkin mask p q) = fredkin-rule
 
 abbrev pub controls : Gate → ℕ → Bool
 controls (on k q) i = false
 controls (pair k p q) i = is p i
+controls (toffoli mask q) i = in-mask mask i
+controls (fredkin mask p q) i = in-mask mask i
 
 abbrev pub target : Gate → ℕ
 target (on k q) = q
 target (pair k p q) = q
+target (toffoli mask q) = q
+target (fredkin mask p q) = min p q
 
--- every place of the set has bit 1
-abbrev pub all-set : (ℕ → Bool) → Bits → Bool
-all-set P [] = true
-all-set P (x ∷ l) = (not (P 0) || x) && all-set (λ i. P (suc i)) l
+-- the second target, the higher of the two; the target again where there is one only
+abbrev pub second : Gate → ℕ
+second (on k q) = q
+second (pair k p q) = q
+second (toffoli mask q) = q
+second (fredkin mask p q) = max p q
 
 -- H: the sum where the target's bit is 0, the difference where it is 1
 abbrev pub mixed : ℕ → (Bits → Entry) → Bits → Entry
@@ -119,5 +151,6 @@ abbrev pub moved : Rule → Phases → ℕ → (Bits → Entry) → Bits → Ent
 moved rule p q F l = turned (phase p (bit l q)) (F (cond (rule .flips) (set l q (not (bit l q))) l))
 
 -- the entries after the gate, from those before it: F is a column's entries by row, or a row's by column
-unfoldable pub acted : Rule → Phases → (ℕ → Bool) → ℕ → (Bits → Entry) → Bits → Entry
-acted rule p P q F l = cond (all-set P l) (cond (rule .mixes) (mixed q F l) (moved rule p q F l)) (F l)
+unfoldable pub acted : Rule → Phases → (ℕ → Bool) → ℕ → ℕ → (Bits → Entry) → Bits → Entry
+acted rule p P q q′ F l =
+    cond (all-set P l) (cond (rule .mixes) (mixed q F l) (cond (rule .swaps) (F (exchanged q q′ l)) (moved rule p q F l))) (F l)

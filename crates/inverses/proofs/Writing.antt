@@ -7,17 +7,17 @@ use native.Mathlib.Omega.{arith}
 use lib.ListN.{length, length-append}
 use lib.Seq.{sets, length-sets}
 use Rattle.gates.specs.Gate.{Gate, Fits, inverse}
-use Rattle.gates.specs.Rule.{decision, target}
+use Rattle.gates.specs.Rule.{decision}
 use Rattle.circuits.specs.declared.Refusal.{Refusal}
 use Rattle.circuits.specs.Refusals.{base-limits}
 use Rattle.circuits.specs.Reading.{Reading, read, refused, gate, Circuit, decoded}
 use Rattle.circuits.specs.Remaining.{Remaining}
 use Rattle.circuits.specs.Codes.{gate-code}
-use Rattle.circuits.specs.Answers.{control}
+use Rattle.circuits.specs.Answers.{control, first-target, last-target}
 use Rattle.circuits.proofs.Answers.{Found}
 use Rattle.circuits.proofs.Readings.{read-value, read-next, refused-read}
 use Rattle.circuits.proofs.Remaining.{remaining-next, decoded-accepted}
-use Rattle.circuits.proofs.Within.{decoded-within, control-small, target-small}
+use Rattle.circuits.proofs.Within.{decoded-within, control-small, target-small, second-small}
 use Rattle.encodings.specs.Encoding.{number-bytes, gate-bytes, gates-bytes}
 use Rattle.encodings.proofs.Lengths.{gates-long, decoded-ends}
 use Rattle.encodings.proofs.Puts.{sets-before}
@@ -62,19 +62,22 @@ said s {n} {m} {first} l =
 
 -- ---- the gate that was read
 
-module _ {m : Reading Gate} {code p q next : ℕ} (f : Found m code p q next) where
-  -- three groups hold its qubits
-  pub found-small : (n : ℕ) → n ≤ 16 → Fits n (f .g) → (p < 2097152) × (q < 2097152)
-  found-small n few fits =
-      (omega (arith, f .of-control, control-small n (f .g) few fits), omega (arith, f .of-target, target-small n (f .g) few fits))
+module _ {m : Reading Gate} {code p q r next : ℕ} (f : Found m code p q r next) where
+  -- three groups hold its mask or control, and its targets
+  pub found-small : (n : ℕ) → n ≤ 16 → Fits n (f .g) → (p < 2097152) × (q < 2097152) × (r < 2097152)
+  found-small n few fits = (
+    omega (arith, f .of-control, control-small n (f .g) few fits),
+    omega (arith, f .of-target, target-small n (f .g) few fits),
+    omega (arith, f .of-second, second-small n (f .g) few fits),
+  )
 
   -- the bytes of its inverse, by what was read
-  pub found-bytes : undo-bytes (decision code) p q ≡ gate-bytes (inverse (f .g))
+  pub found-bytes : undo-bytes (decision code) p q r ≡ gate-bytes (inverse (f .g))
   found-bytes =
       let c = gate-code (f .g) in
-      undo-bytes (decision code) p q ≡⟨ ap₂ (λ (k j : ℕ). undo-bytes (decision k) j q) (sym (f .of-code)) (sym (f .of-control)) ⟩
-      undo-bytes (decision c) (control (f .g)) q ≡⟨ ap (undo-bytes (decision c) (control (f .g))) (sym (f .of-target)) ⟩
-      undo-bytes (decision c) (control (f .g)) (target (f .g)) ≡⟨ undo-gate (f .g) ⟩
+      undo-bytes (decision code) p q r ≡⟨ ap₂ (λ (k j : ℕ). undo-bytes (decision k) j q r) (sym (f .of-code)) (sym (f .of-control)) ⟩
+      undo-bytes (decision c) (control (f .g)) q r ≡⟨ ap₂ (undo-bytes (decision c) (control (f .g))) (sym (f .of-target)) (sym (f .of-second)) ⟩
+      undo-bytes (decision c) (control (f .g)) (first-target (f .g)) (last-target (f .g)) ≡⟨ undo-gate (f .g) ⟩
       gate-bytes (inverse (f .g)) ∎
 
 -- ---- the loop

@@ -1,9 +1,11 @@
 // The inverse of a gate list, written into a lent buffer: the gates in opposite order, each by its inverse code. Any bytes are safe input.
 use circuits::GateRead;
 use gates::Decision;
+use gates::Operands;
 use lists::ListRead;
 use miters::Refusal;
 ghost use mathlib.Core.Path.{_≡_};
+ghost use mathlib.Core.List.{_++_};
 ghost use Prim.Native.Nat.{_+_, _<_, _≤_};
 ghost use lib.ListN.{length};
 ghost use lib.Seq.{sets};
@@ -11,7 +13,7 @@ ghost use Rattle.gates.specs.Rule.{decision};
 ghost use Rattle.circuits.specs.Refusals.{base-limits};
 ghost use Rattle.circuits.specs.Reading.{decoded};
 ghost use Rattle.lists.specs.Answers.{Listed};
-ghost use Rattle.encodings.specs.Encoding.{gates-bytes};
+ghost use Rattle.encodings.specs.Encoding.{number-bytes, gates-bytes};
 ghost use Rattle.encodings.specs.Writing.{Put};
 ghost use Rattle.inverses.specs.Inverse.{undone, inverted};
 ghost use Rattle.inverses.specs.Writing.{data-bytes, undo-bytes, gates-said};
@@ -24,30 +26,62 @@ pub enum Written {
     Refused(Refusal),
 }
 
-// What follows a gate's code, at a place of the buffer: the control of a gate on two qubits, and the target. Returns the place after it.
-fn write_operands(qubits: u32, control: u32, target: u32, buffer: &mut [u8], at: usize) -> usize
+// Two numbers at a place of the buffer: a control or a mask, and a target. Returns the place after them.
+fn write_both(control: u32, target: u32, buffer: &mut [u8], at: usize) -> usize
     requires { ⌜ (control < 2097152) × (target < 2097152) ⌝ }
-    requires { ⌜ at + length (data-bytes qubits control target) ≤ length (now buffer) ⌝ }
-    ensures { λ r. ⌜ Put (data-bytes qubits control target) at (now (buffer .entry)) (now (buffer .exit)) r ⌝ }
+    requires { ⌜ at + length (number-bytes control ++ number-bytes target) ≤ length (now buffer) ⌝ }
+    ensures { λ r. ⌜ Put (number-bytes control ++ number-bytes target) at (now (buffer .entry)) (now (buffer .exit)) r ⌝ }
 {
-    if qubits == 1 {
-        return encodings::write_number(target, buffer, at);
-    }
     let next = encodings::write_number(control, buffer, at);
     encodings::write_number(target, buffer, next)
 }
 
+// What follows a gate's code, at a place of the buffer. Returns the place after it.
+fn write_operands(
+    operands: Operands,
+    control: u32,
+    target: u32,
+    second: u32,
+    buffer: &mut [u8],
+    at: usize,
+) -> usize
+    requires { ⌜ (control < 2097152) × (target < 2097152) × (second < 2097152) ⌝ }
+    requires { ⌜ at + length (data-bytes operands control target second) ≤ length (now buffer) ⌝ }
+    ensures { λ r. ⌜ Put (data-bytes operands control target second) at (now (buffer .entry)) (now (buffer .exit)) r ⌝ }
+{
+    match operands {
+        Operands::Qubit => encodings::write_number(target, buffer, at),
+        Operands::Controlled => write_both(control, target, buffer, at),
+        Operands::Masked { least: _, targets } => {
+            let next = write_both(control, target, buffer, at);
+            if targets == 2 {
+                encodings::write_number(second, buffer, next)
+            } else {
+                next
+            }
+        }
+    }
+}
+
 // The inverse of the gate with this code, at a place of the buffer. Returns the place after it.
-fn write_gate(code: u32, control: u32, target: u32, buffer: &mut [u8], at: usize) -> usize
-    requires { ⌜ (control < 2097152) × (target < 2097152) ⌝ }
-    requires { ⌜ at + length (undo-bytes (decision code) control target) ≤ length (now buffer) ⌝ }
-    ensures { λ r. ⌜ Put (undo-bytes (decision code) control target) at (now (buffer .entry)) (now (buffer .exit)) r ⌝ }
+fn write_gate(
+    code: u32,
+    control: u32,
+    target: u32,
+    second: u32,
+    buffer: &mut [u8],
+    at: usize,
+) -> usize
+    requires { ⌜ (control < 2097152) × (target < 2097152) × (second < 2097152) ⌝ }
+    requires { ⌜ at + length (undo-bytes (decision code) control target second) ≤ length (now buffer) ⌝ }
+    ensures { λ r. ⌜ Put (undo-bytes (decision code) control target second) at (now (buffer .entry)) (now (buffer .exit)) r ⌝ }
 {
     match gates::decide(code) {
         Decision::Unknown => at,
         Decision::Known(rule) => {
+            let operands = rule.operands;
             let next = encodings::write_number(rule.inverse, buffer, at);
-            write_operands(rule.qubits, control, target, buffer, next)
+            write_operands(operands, control, target, second, buffer, next)
         }
     }
 }
@@ -68,10 +102,11 @@ fn write_gates(list: &[u8], first: usize, qubits: u32, gates: u32, buffer: &mut 
                 code,
                 control,
                 target,
+                second,
                 next,
             } => {
                 let place = first + (end - next);
-                write_gate(code, control, target, buffer, place);
+                write_gate(code, control, target, second, buffer, place);
                 at = next;
             }
         }

@@ -17,7 +17,7 @@ use Rattle.diagrams.proofs.Tests.{both-true}
 use Rattle.transitions.specs.State.{Mode, mode-of}
 use Rattle.transitions.specs.Source.{SourceValues, source-entry, Refers, Holds-slot}
 use Rattle.transitions.specs.Next.{numbered, is-value, is-leaf-by, is-leaf, entry-of, leaf-entry}
-use Rattle.transitions.proofs.Codes.{ref-of-odd, ref-of-even, mode-turning, mode-adding, mode-subtracting, mode-waiting, mode-choosing, mode-pair}
+use Rattle.transitions.proofs.Codes.{ref-of-odd, ref-of-even, mode-turning, mode-adding, mode-subtracting, mode-waiting, mode-swapping, mode-choosing, mode-pair}
 
 -- ---- references to values
 
@@ -52,11 +52,12 @@ module _ (x y m : ℕ) where
 
   pub not-leaf : 16 ≤ m → false ≡ is-leaf (numbered x y m)
   unfolding is-leaf
-  not-leaf low = by-order (decLt m 64)
+  not-leaf low = by-order (decLt m 32) (decLt m 64)
     where
-      by-order : Dec (m < 64) → false ≡ is-leaf-by (mode-of m) (ref-of x) (ref-of y)
-      by-order (yes high) = rw (mode-waiting m low high)
-      by-order (no past) = rw (mode-choosing m (omega arith))
+      by-order : Dec (m < 32) → Dec (m < 64) → false ≡ is-leaf-by (mode-of m) (ref-of x) (ref-of y)
+      by-order (yes high) other = rw (mode-waiting m low high)
+      by-order (no past) (yes high) = rw (mode-swapping m (omega arith) high)
+      by-order (no past) (no further) = rw (mode-choosing m (omega arith))
 
 -- ---- the entry
 

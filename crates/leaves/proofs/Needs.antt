@@ -10,7 +10,7 @@ use Rattle.algebra.specs.declared.Entry.{Entry}
 use Rattle.diagrams.specs.Diagram.{Store, ref-of}
 use Rattle.transitions.specs.declared.State.{State}
 use Rattle.transitions.specs.Plan.{Plan}
-use Rattle.transitions.specs.State.{Mode, turning, adding, subtracting, waiting, choosing, mode-of, top}
+use Rattle.transitions.specs.State.{Mode, turning, adding, subtracting, waiting, swapping, choosing, mode-of, top}
 use Rattle.transitions.specs.Source.{SourceNodes, SourceValues, Refers, Readable, Holds-slot}
 use Rattle.transitions.specs.Next.{is-value, is-leaf-by, is-leaf}
 use Rattle.transitions.specs.Valid.{ValidPlan, ValidState, Suits, Staged, Usable}
@@ -33,6 +33,7 @@ module _ (plan : Plan) (s : Store Entry) (valid : ValidPlan plan s) where
   staged level subtracting x y suits = tt
   staged level (waiting k) x y suits =
       let up-to = suits .0 in let target-below = valid .has-target in let few = valid .few-stages in omega arith
+  staged level (swapping k b) x y suits = let up-to = suits .1 in let last = valid .has-second in let few = valid .few-stages in omega arith
   staged level (choosing k e) x y suits = let below = suits .1 in let few = valid .few-stages in omega arith
 
   pub usable : (cols : List (List ℕ)) (σ : State) → SourceNodes s cols → ValidState plan s σ → Usable plan cols σ
@@ -60,6 +61,7 @@ module _ (plan : Plan) (s : Store Entry) (vals : List (List ℤ)) (held : Source
       let both = both-true (is-value (ref-of x)) (is-value (ref-of y)) leaf in
       (value-slot s vals x held x-refers (both .0), value-slot s vals y held y-refers (both .1))
   leaf-slots-by level (waiting k) x y suits x-refers y-refers leaf = let z : _≡_ {A = ℕ} 0 1 = cc in absurd (omega arith)
+  leaf-slots-by level (swapping k b) x y suits x-refers y-refers leaf = let z : _≡_ {A = ℕ} 0 1 = cc in absurd (omega arith)
   leaf-slots-by level (choosing k e) x y suits x-refers y-refers leaf = let z : _≡_ {A = ℕ} 0 1 = cc in absurd (omega arith)
 
   -- the slots that `leaf` reads

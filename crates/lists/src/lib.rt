@@ -59,6 +59,7 @@ fn check_gates(bytes: &[u8], first: usize, qubits: u32, gates: u32) -> ListRead
                 code: _,
                 control: _,
                 target: _,
+                second: _,
                 next,
             } => at = next,
         }

@@ -1,30 +1,33 @@
 -- What a state means: after a bit it is what the next state means, and a bit that nothing asks about does not count.
 -- Assumes nothing.
 use mathlib.Core.Path.{_≡_, refl, sym, _∙_, ap, ap₂, subst, fun-ext, _≡⟨_⟩_, _∎}
-use mathlib.Core.Bool.{Bool, true, false, not, cond, _&&_, _||_}
+use mathlib.Core.Bool.{Bool, true, false, not, cond, _&&_, _||_, Bool·beq}
 use mathlib.Core.List.{_∷_}
-use Prim.Native.Nat.{ℕ, suc, _-_, _<_}
+use Prim.Native.Nat.{ℕ, suc, _-_, _<_, _≤_}
 use native.Mathlib.Omega.{arith}
 use lib.Dec.{eqb}
+use lib.ListN.{set}
 use borrow.Author.Tests.{eqb-true, eqb-false}
 use Rattle.algebra.specs.declared.Entry.{Entry}
 use Rattle.algebra.specs.Entry.{𝟘, neg, _⊕_, _⊖_, turned}
 use Rattle.algebra.specs.Matrix.{Bits}
 use Rattle.algebra.proofs.Rings.{zero-add, neg-zero}
 use Rattle.algebra.proofs.Entries.{entries, ⊕-zero, ⊖-is, turned-four}
-use Rattle.gates.specs.Rule.{phase, flipped, all-set, acted}
+use Rattle.gates.specs.Gate.{bit, all-set, exchanged}
+use Rattle.gates.specs.Rule.{phase, flipped, acted}
 use Rattle.diagrams.specs.Diagram.{Store, reached, ref-of}
 use Rattle.diagrams.proofs.Tests.{both-true}
 use Rattle.transitions.specs.declared.State.{State}
 use Rattle.transitions.specs.Plan.{Plan, plan-rule, control}
-use Rattle.transitions.specs.State.{Mode, turning, adding, subtracting, waiting, choosing, mode-of, meant-by, meaning, top}
+use Rattle.transitions.specs.State.{Mode, turning, adding, subtracting, waiting, swapping, choosing, mode-of, meant-by, meaning, top}
 use Rattle.transitions.specs.Source.{Refers}
 use Rattle.transitions.specs.Next.{mode-code, on-both, on-one, cofactor, paired, chosen, at-target, next-by, next-state}
 use Rattle.transitions.specs.Valid.{ValidPlan, Passed}
 use Rattle.transitions.proofs.Codes.{Codes, mode-of-code}
-use Rattle.meanings.proofs.Actions.{acted-later, made-at-target, acted-here}
+use Rattle.meanings.proofs.Actions.{acted-later, made-at-target, acted-here, exchanged-here}
 use Rattle.meanings.proofs.Stages.{controls-from, controls-first, controls-later, all-set-from}
-use Rattle.meanings.proofs.Stages.{strictly, passed-stage, target-ahead, phase-small, control-target, control-stage, control-between, all-passed}
+use Rattle.meanings.proofs.Stages.{strictly, passed-stage, target-ahead, target-up-to, second-ahead, phase-small}
+use Rattle.meanings.proofs.Stages.{control-target, control-second, control-stage, control-between, all-passed}
 use Rattle.meanings.proofs.Cofactors.{Asks, reached-cofactor, reached-passed, cofactor-asks, zero-reached}
 use Rattle.meanings.proofs.Sound.{Sound, SoundAt, sound-later}
 
@@ -123,7 +126,14 @@ module _ (plan : Plan) (s : Store Entry) (valid : ValidPlan plan s) (level : ℕ
 module _ (plan : Plan) (s : Store Entry) (valid : ValidPlan plan s) (level : ℕ) where
   -- on what x gives from a level on
   abbrev acting-on : ℕ → ℕ → Bits → Entry
-  acting-on from x = acted (plan-rule plan) (plan .phases) (controls-from plan from) (plan .stage (plan .target) - from) (gives s from x)
+  acting-on from x =
+      acted (plan-rule plan) (plan .phases) (controls-from plan from) (plan .stage (plan .target) - from) (plan .stage (plan .second) - from) (gives s from x)
+
+  -- past a swap's first target, whose bit was `seen`
+  abbrev swapping-on : ℕ → Bool → ℕ → ℕ → Bits → Entry
+  swapping-on from seen x y l =
+      let q = plan .stage (plan .second) - from in
+      cond (all-set (controls-from plan from) l) (cond (Bool·beq (bit l q) seen) (gives s from x l) (gives s from y (set l q seen))) (gives s from x l)
 
   module _ (b : Bool) (l : Bits) where
     -- before the target: a control at this level whose bit is 0 ends it
@@ -131,32 +141,57 @@ module _ (plan : Plan) (s : Store Entry) (valid : ValidPlan plan s) (level : ℕ
         → acting-on level x (b ∷ l) ≡ cond (not (control plan level) || b) (acting-on (suc level) y l) (gives s (suc level) y l)
     acting-later x y before goes =
         let one-less : plan .stage (plan .target) - level ≡ suc (plan .stage (plan .target) - suc level) = omega arith in
-        let act : (ℕ → Bool) → ℕ → (Bits → Entry) → Bits → Entry = acted (plan-rule plan) (plan .phases) in
+        let before′ = second-not-before before in
+        let one-less′ : plan .stage (plan .second) - level ≡ suc (plan .stage (plan .second) - suc level) = omega arith in
+        let act : (ℕ → Bool) → ℕ → ℕ → (Bits → Entry) → Bits → Entry = acted (plan-rule plan) (plan .phases) in
         let q = plan .stage (plan .target) - suc level in
+        let q′ = plan .stage (plan .second) - suc level in
         let F = gives s level x in
         acting-on level x (b ∷ l)
-        ≡⟨ ap (λ (t : ℕ). act (controls-from plan level) t F (b ∷ l)) one-less ⟩
-        act (controls-from plan level) (suc q) F (b ∷ l)
-        ≡⟨ acted-later (plan-rule plan) (plan .phases) (controls-from plan level) F b l q ⟩
-        cond (not (controls-from plan level 0) || b) (act (λ i. controls-from plan level (suc i)) q (λ m. F (b ∷ m)) l) (F (b ∷ l))
-        ≡⟨ ap₂ (λ (t : Bool) (P : ℕ → Bool). cond (not t || b) (act P q (λ m. F (b ∷ m)) l) (F (b ∷ l)))
+        ≡⟨ ap₂ (λ (t t′ : ℕ). act (controls-from plan level) t t′ F (b ∷ l)) one-less one-less′ ⟩
+        act (controls-from plan level) (suc q) (suc q′) F (b ∷ l)
+        ≡⟨ acted-later (plan-rule plan) (plan .phases) (controls-from plan level) F b l q q′ ⟩
+        cond (not (controls-from plan level 0) || b) (act (λ i. controls-from plan level (suc i)) q q′ (λ m. F (b ∷ m)) l) (F (b ∷ l))
+        ≡⟨ ap₂ (λ (t : Bool) (P : ℕ → Bool). cond (not t || b) (act P q q′ (λ m. F (b ∷ m)) l) (F (b ∷ l)))
         (controls-first plan level) (controls-later plan level) ⟩
-        cond (not (control plan level) || b) (act (controls-from plan (suc level)) q (λ m. F (b ∷ m)) l) (F (b ∷ l))
-        ≡⟨ ap (λ (G : Bits → Entry). cond (not (control plan level) || b) (act (controls-from plan (suc level)) q G l) (G l)) (fun-ext goes) ⟩
+        cond (not (control plan level) || b) (act (controls-from plan (suc level)) q q′ (λ m. F (b ∷ m)) l) (F (b ∷ l))
+        ≡⟨ ap (λ (G : Bits → Entry). cond (not (control plan level) || b) (act (controls-from plan (suc level)) q q′ G l) (G l)) (fun-ext goes) ⟩
         cond (not (control plan level) || b) (acting-on (suc level) y l) (gives s (suc level) y l) ∎
+      where
+        second-not-before : level < plan .stage (plan .target) → level < plan .stage (plan .second)
+        second-not-before before = second-ahead plan s valid (plan .target) level (target-up-to plan s valid) before
 
     -- at the target
     acting-here : (x : ℕ) → plan .stage (plan .target) ≡ level → acting-on level x (b ∷ l)
         ≡ cond (all-set (controls-from plan (suc level)) l)
-        (made-at-target (plan-rule plan) (plan .phases) (controls-from plan level) (gives s level x) b l) (gives s level x (b ∷ l))
+        (made-at-target (plan-rule plan) (plan .phases) (controls-from plan level) (gives s level x) b l (plan .stage (plan .second) - level))
+        (gives s level x (b ∷ l))
     acting-here x here =
         let none-left : plan .stage (plan .target) - level ≡ 0 = omega arith in
         let F = gives s level x in
         let P = controls-from plan level in
-        let made = made-at-target (plan-rule plan) (plan .phases) P F b l in
-        ap (λ (t : ℕ). acted (plan-rule plan) (plan .phases) P t F (b ∷ l)) none-left
-        ∙ acted-here (plan-rule plan) (plan .phases) P F b l (controls-first plan level ∙ control-target plan s valid level here)
+        let q′ = plan .stage (plan .second) - level in
+        let made = made-at-target (plan-rule plan) (plan .phases) P F b l q′ in
+        ap (λ (t : ℕ). acted (plan-rule plan) (plan .phases) P t q′ F (b ∷ l)) none-left
+        ∙ acted-here (plan-rule plan) (plan .phases) P F b l q′ (controls-first plan level ∙ control-target plan s valid level here)
         ∙ ap (λ (Q : ℕ → Bool). cond (all-set Q l) made (F (b ∷ l))) (controls-later plan level)
+
+    -- before a swap's second target: a control at this level whose bit is 0 ends it
+    swapping-later : (seen : Bool) (x y x′ y′ : ℕ) → level < plan .stage (plan .second) → ((m : Bits) → gives s level x (b ∷ m) ≡ gives s (suc level) x′ m)
+        → ((m : Bits) → gives s level y (b ∷ m) ≡ gives s (suc level) y′ m)
+        → swapping-on level seen x y (b ∷ l) ≡ cond (not (control plan level) || b) (swapping-on (suc level) seen x′ y′ l) (gives s (suc level) x′ l)
+    swapping-later seen x y x′ y′ before x-goes y-goes =
+        let one-less : plan .stage (plan .second) - level ≡ suc (plan .stage (plan .second) - suc level) = omega arith in
+        let j = plan .stage (plan .second) - suc level in
+        ap₂ (λ (q : ℕ) (t : Bool). cond t (cond (Bool·beq (bit (b ∷ l) q) seen) (gives s level x (b ∷ l)) (gives s level y (set (b ∷ l) q seen)))
+        (gives s level x (b ∷ l))) one-less (all-set-from plan level b l)
+        ∙ ap₂ (λ (u w : Entry). cond ((not (control plan level) || b) && all-set (controls-from plan (suc level)) l) (cond (Bool·beq (bit l j) seen) u w) u)
+        (x-goes l) (y-goes (set l j seen))
+        ∙ split (not (control plan level) || b) (all-set (controls-from plan (suc level)) l) _ _
+      where
+        split : (t a : Bool) (u w : Entry) → cond (t && a) u w ≡ cond t (cond a u w) w
+        split true a u w = refl
+        split false a u w = refl
 
     -- where there is no control the gate is still to act
     acting-free : (x y : ℕ) → level < plan .stage (plan .target) → ((m : Bits) → gives s level x (b ∷ m) ≡ gives s (suc level) y m)
@@ -183,6 +218,13 @@ module _ (plan : Plan) (s : Store Entry) (valid : ValidPlan plan s) (level : ℕ
         let up-to = now .suits .0 in
         let target-below = valid .has-target in
         acting-free b l x x (target-ahead plan s valid k level up-to (later .ahead)) (λ m. reached-passed plan s level b (ref-of x) m (later .x-asks .from))
+        (control-between plan s valid k level (omega arith) (now .suits .2) (later .ahead))
+    passed-by (swapping k seen) x y now later =
+        let last = valid .has-second in
+        let up-to = now .suits .1 in
+        swapping-later b l seen x y x y (second-ahead plan s valid k level (now .suits .1) (later .ahead))
+        (λ m. reached-passed plan s level b (ref-of x) m (later .x-asks .from)) (λ m. reached-passed plan s level b (ref-of y) m (later .y-asks .from))
+        ∙ ap (λ (t : Bool). cond (not t || b) (swapping-on (suc level) seen x y l) (gives s (suc level) x l))
         (control-between plan s valid k level (omega arith) (now .suits .2) (later .ahead))
     passed-by (choosing k e) x y now later =
         let active = all-set (controls-from plan (suc level)) l in
@@ -212,7 +254,7 @@ module _ (plan : Plan) (s : Store Entry) (valid : ValidPlan plan s) (level : ℕ
     at-target-means : (x : ℕ) → Asks plan s level x → plan .stage (plan .target) ≡ level → Passed plan (plan .target) level
         → acting-on level x (b ∷ l) ≡ meaning plan s (suc level) (at-target plan s level b (suc (plan .target)) x) l
     unfolding at-target active
-    at-target-means x asks here passed = acting-here b l x here ∙ by-mixes (plan .mixes) refl
+    at-target-means x asks here passed = acting-here b l x here ∙ by-action (plan .mixes) (plan .swaps) refl refl
       where
         passed-target : Passed plan (suc (plan .target)) (suc level)
         passed-target = passed-stage plan (plan .target) level passed here
@@ -234,19 +276,36 @@ module _ (plan : Plan) (s : Store Entry) (valid : ValidPlan plan s) (level : ℕ
         mix : Entry → Entry → Entry
         mix u w = cond b (u ⊖ w) (u ⊕ w)
 
-        by-mixes : (mixes : Bool) → plan .mixes ≡ mixes
-            → cond active
-            (cond mixes (mix (gives s level x (false ∷ l)) (gives s level x (true ∷ l))) (turned (phase (plan .phases) b) (gives s level x (taken ∷ l))))
-            (gives s level x (b ∷ l))
+        made-by : Bool → Bool → Entry
+        made-by mixes swaps =
+            let F = gives s level x in
+            cond active
+            (cond mixes (mix (F (false ∷ l)) (F (true ∷ l)))
+            (cond swaps (F (exchanged 0 (plan .stage (plan .second) - level) (b ∷ l))) (turned (phase (plan .phases) b) (F (taken ∷ l))))) (F (b ∷ l))
+
+        by-action : (mixes swaps : Bool) → plan .mixes ≡ mixes → plan .swaps ≡ swaps → made-by mixes swaps
             ≡ meaning plan s (suc level) (cond mixes
             (paired plan (cond b 9 8) (cofactor s level false x) (cofactor s level true x))
-            (chosen plan (suc (plan .target)) (phase (plan .phases) b) (cofactor s level b x) (cofactor s level taken x))) l
-        by-mixes true mixes =
+            (cond swaps
+            (on-both (swapping (suc (plan .target)) b) (cofactor s level b x) (cofactor s level (not b) x))
+            (chosen plan (suc (plan .target)) (phase (plan .phases) b) (cofactor s level b x) (cofactor s level taken x)))) l
+        by-action true swaps mixes e =
             ap (λ (t : Bool). cond t (mix (gives s level x (false ∷ l)) (gives s level x (true ∷ l))) (gives s level x (b ∷ l))) (alone mixes)
             ∙ ap₂ mix (goes false) (goes true)
             ∙ sym (paired-means plan s valid (suc level) l (cofactor s level false x) (cofactor s level true x) b
             (refers-after false x asks) (refers-after true x asks))
-        by-mixes false moves =
+        by-action false true moves e =
+            let first = valid .target-first e in
+            let rises = valid .stages-ascend (plan .target) (plan .second) first (valid .has-second) in
+            let most = valid .few-stages in
+            let last = valid .has-second in
+            let j = plan .stage (plan .second) - suc level in
+            let one-less : plan .stage (plan .second) - level ≡ suc j = omega arith in
+            ap (λ (q : ℕ). cond active (gives s level x (exchanged 0 q (b ∷ l))) (gives s level x (b ∷ l))) one-less
+            ∙ ap (λ (u : Entry). cond active u (gives s level x (b ∷ l))) (exchanged-here (gives s level x) b l j)
+            ∙ ap₂ (λ (u w : Entry). cond active (cond (Bool·beq (bit l j) b) u w) u) (goes b) (reached-cofactor s level (not b) x (set l j b))
+            ∙ sym (meaning-on plan s valid (suc level) l (swapping (suc (plan .target)) b) (cofactor s level b x) (cofactor s level (not b) x) (omega arith))
+        by-action false false moves e =
             ap₂ (choice active (phase (plan .phases) b)) (goes taken) (goes b)
             ∙ sym (chosen-means plan s valid (suc level) l (cofactor s level b x) (cofactor s level taken x)
             (suc (plan .target)) (phase (plan .phases) b) (phase-small plan s valid b) (λ last. passed-target))
@@ -296,13 +355,90 @@ module _ (plan : Plan) (s : Store Entry) (valid : ValidPlan plan s) (level : ℕ
             let rises = valid .stages-ascend k (plan .target) before (valid .has-target) in
             acting-later b l x (cofactor s level b x) (omega arith) (reached-cofactor s level b x)
             ∙ ap (λ (t : Bool). cond (not t || b) (acting-on (suc level) (cofactor s level b x) l) (own b x))
-            (control-stage plan s valid k level below here (eqb-false _ _ f))
+            (control-stage plan s valid k level below here (eqb-false _ _ f) (not-second before (target-up-to plan s valid)))
             ∙ by-bit b before
+          where
+            not-second : k < plan .target → plan .target ≤ plan .second → plan .second ≡ k → ⊥
+            not-second before up-to same = omega arith
         by-stage false e target f =
             let ahead = strictly (sound .ahead) (eqb-false _ _ e) in
             acting-free b l x (cofactor s level b x) (target-ahead plan s valid k level (sound .suits .0) ahead) (reached-cofactor s level b x)
             (control-between plan s valid k level below (sound .suits .2) ahead)
             ∙ sym (waiting-means k x below)
+    next-means-by (swapping k seen) x y sound = by-stage (eqb (plan .stage k) level) refl (eqb (plan .second) k) refl
+      where
+        x′ : ℕ
+        x′ = cofactor s level b x
+
+        y′ : ℕ
+        y′ = cofactor s level b y
+
+        below : k < plan .stages
+        below = let up-to = sound .suits .1 in let last = valid .has-second in omega arith
+
+        later : level < plan .stage (plan .second) → swapping-on level seen x y (b ∷ l)
+            ≡ cond (not (control plan level) || b) (swapping-on (suc level) seen x′ y′ l) (own b x)
+        later before = swapping-later b l seen x y (cofactor s level b x) (cofactor s level b y) before (reached-cofactor s level b x) (reached-cofactor s level b y)
+
+        swapping-means : (j : ℕ) → j ≤ plan .second → swapping-on (suc level) seen x′ y′ l ≡ meaning plan s (suc level) (on-both (swapping j seen) x′ y′) l
+        swapping-means j up-to =
+            let last = valid .has-second in
+            let most = valid .few-stages in
+            sym (meaning-on plan s valid (suc level) l (swapping j seen) x′ y′ (omega arith))
+
+        at-second : plan .stage k ≡ level → plan .second ≡ k → (same : Bool) → Bool·beq b seen ≡ same
+            → cond active (cond same (own b x) (own seen y)) (own b x) ≡ meaning plan s (suc level) (cond same
+            (on-one (turning 0) (cofactor s level b x)) (chosen plan (suc k) 0 (cofactor s level b x) (cofactor s level seen y))) l
+        at-second here is-second true e = either active (own b x) ∙ sym (plain-means plan s valid (suc level) l (cofactor s level b x))
+          where
+            either : (t : Bool) (u : Entry) → cond t u u ≡ u
+            either true u = refl
+            either false u = refl
+        at-second here is-second false e =
+            ap (λ (u : Entry). cond active u (own b x)) (sym (turned-zero (own seen y)))
+            ∙ sym (chosen-means plan s valid (suc level) l (cofactor s level b x) (cofactor s level seen y) (suc k) 0 (omega arith)
+            (λ last. passed-stage plan k level (sound .suits .2) here))
+
+        by-bit : (c : Bool) → k < plan .second → cond c (swapping-on (suc level) seen x′ y′ l) (own b x)
+            ≡ meaning plan s (suc level) (cond c (on-both (swapping (suc k) seen) x′ y′) (on-one (turning 0) x′)) l
+        by-bit true more = swapping-means (suc k) more
+        by-bit false more = sym (plain-means plan s valid (suc level) l (cofactor s level b x))
+
+        by-stage : (here : Bool) → eqb (plan .stage k) level ≡ here → (second : Bool) → eqb (plan .second) k ≡ second
+            → swapping-on level seen x y (b ∷ l) ≡ meaning plan s (suc level) (cond here
+            (cond second
+            (cond (Bool·beq b seen) (on-one (turning 0) x′) (chosen plan (suc k) 0 x′ (cofactor s level seen y)))
+            (cond b (on-both (swapping (suc k) seen) x′ y′) (on-one (turning 0) x′)))
+            (on-both (swapping k seen) x′ y′)) l
+        by-stage true e true f =
+            let here : plan .stage k ≡ level = eqb-true _ _ e in
+            let is-second : plan .second ≡ k = eqb-true _ _ f in
+            let at : plan .stage (plan .second) ≡ level = ap (plan .stage) is-second ∙ here in
+            let none-left : plan .stage (plan .second) - level ≡ 0 = omega arith in
+            let F = gives s level in
+            ap₂ (λ (q : ℕ) (t : Bool). cond t (cond (Bool·beq (bit (b ∷ l) q) seen) (F x (b ∷ l)) (F y (set (b ∷ l) q seen))) (F x (b ∷ l)))
+            none-left (all-set-from plan level b l)
+            ∙ ap (λ (t : Bool). cond ((not t || b) && active) (cond (Bool·beq b seen) (F x (b ∷ l)) (F y (seen ∷ l))) (F x (b ∷ l)))
+            (control-second plan s valid level at)
+            ∙ ap₂ (λ (u w : Entry). cond active (cond (Bool·beq b seen) u w) u) (reached-cofactor s level b x l) (reached-cofactor s level seen y l)
+            ∙ at-second here is-second (Bool·beq b seen) refl
+        by-stage true e false f =
+            let here : plan .stage k ≡ level = eqb-true _ _ e in
+            let more : k < plan .second = strictly (sound .suits .1) (eqb-false _ _ f) in
+            let rises = valid .stages-ascend k (plan .second) more (valid .has-second) in
+            later (omega arith)
+            ∙ ap (λ (t : Bool). cond (not t || b) (swapping-on (suc level) seen x′ y′ l) (own b x))
+            (control-stage plan s valid k level below here (not-target (sound .suits .0)) (eqb-false _ _ f))
+            ∙ by-bit b more
+          where
+            not-target : plan .target < k → plan .target ≡ k → ⊥
+            not-target past same = omega arith
+        by-stage false e second f =
+            let ahead = strictly (sound .ahead) (eqb-false _ _ e) in
+            later (second-ahead plan s valid k level (sound .suits .1) ahead)
+            ∙ ap (λ (t : Bool). cond (not t || b) (swapping-on (suc level) seen x′ y′ l) (own b x))
+            (control-between plan s valid k level below (sound .suits .2) ahead)
+            ∙ swapping-means k (sound .suits .1)
     next-means-by (choosing k e) x y sound =
         choosing-first b l k e x y
         ∙ ap₂ (choice ((not (control plan level) || b) && active) e) (reached-cofactor s level b y l) (reached-cofactor s level b x l)
@@ -324,11 +460,14 @@ module _ (plan : Plan) (s : Store Entry) (valid : ValidPlan plan s) (level : ℕ
         by-stage true f =
             let here : plan .stage k ≡ level = eqb-true _ _ f in
             ap (λ (t : Bool). choice ((not t || b) && active) e (own b y) (own b x))
-            (control-stage plan s valid k level (sound .suits .1) here (apart (sound .suits .0)))
+            (control-stage plan s valid k level (sound .suits .1) here (apart (sound .suits .0) (target-up-to plan s valid)) (past-second (sound .suits .0)))
             ∙ by-bit b here
           where
-            apart : plan .target < k → plan .target ≡ k → ⊥
-            apart past target = omega arith
+            apart : plan .second < k → plan .target ≤ plan .second → plan .target ≡ k → ⊥
+            apart past up-to target = omega arith
+
+            past-second : plan .second < k → plan .second ≡ k → ⊥
+            past-second past same = omega arith
         by-stage false f =
             ap (λ (t : Bool). choice ((not t || b) && active) e (own b y) (own b x))
             (control-between plan s valid k level (sound .suits .1) (sound .suits .3) (strictly (sound .ahead) (eqb-false _ _ f)))

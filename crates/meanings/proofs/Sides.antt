@@ -11,8 +11,8 @@ use Rattle.algebra.specs.Entry.{_⊕_, _⊖_, turned}
 use Rattle.algebra.specs.Matrix.{Bits, Matrix}
 use Rattle.gates.specs.declared.Phases.{Phases}
 use Rattle.gates.specs.declared.Rule.{Rule}
-use Rattle.gates.specs.Gate.{Gate, bit, Fits}
-use Rattle.gates.specs.Rule.{phase, gate-rule, controls, target, all-set, mixed, moved, acted}
+use Rattle.gates.specs.Gate.{Gate, bit, all-set, exchanged, Fits}
+use Rattle.gates.specs.Rule.{phase, gate-rule, controls, target, second, mixed, moved, acted}
 use Rattle.gates.proofs.LocalRules.{product-left, product-right}
 use Rattle.diagrams.specs.Diagram.{levels, rows, columns, entries}
 use Rattle.diagrams.proofs.Places.{levels-double, length-halves}
@@ -99,7 +99,23 @@ line-set : (M : Matrix) (right : Bool) (l : Bits) (q : ℕ) (b : Bool) → line 
 line-set M false l q b = ap₂ M (sym (set-half false l q b .0)) (sym (set-half false l q b .1))
 line-set M true l q b = ap₂ M (sym (set-half true l q b .1)) (sym (set-half true l q b .0))
 
-module _ (rule : Rule) (p : Phases) (M : Matrix) (right : Bool) (Q P : ℕ → Bool) (n q : ℕ) (l : Bits) (spreads : Spreads right Q P)
+-- a row's or a column's entries do not look at the bits of its own side
+line-other : (M : Matrix) (right : Bool) (l : Bits) (q : ℕ) (b : Bool) (x : Bits) → line M right l x ≡ line M right (set l (level-on right q) b) x
+line-other M false l q b x = ap (M x) (sym (set-half false l q b .1))
+line-other M true l q b x = ap (λ (r : Bits). M r x) (sym (set-half true l q b .1))
+
+line-exchanged : (M : Matrix) (right : Bool) (l : Bits) (q q′ : ℕ)
+    → line M right l (exchanged q q′ (half right l)) ≡ entries M (exchanged (level-on right q) (level-on right q′) l)
+line-exchanged M right l q q′ =
+    ap₂ (λ (a b : Bool). line M right l (set (set (half right l) q a) q′ b)) (bit-half right l q′) (bit-half right l q)
+    ∙ ap (λ (x : Bits). line M right l (set x q′ (bit l (level-on right q)))) (sym (set-half right l q (bit l (level-on right q′)) .0))
+    ∙ line-other M right l q (bit l (level-on right q′)) (set (half right once) q′ (bit l (level-on right q)))
+    ∙ line-set M right once q′ (bit l (level-on right q))
+  where
+    once : Bits
+    once = set l (level-on right q) (bit l (level-on right q′))
+
+module _ (rule : Rule) (p : Phases) (M : Matrix) (right : Bool) (Q P : ℕ → Bool) (n q q′ : ℕ) (l : Bits) (spreads : Spreads right Q P)
     (size : length l ≡ levels n) where
   abbrev L : Bits → Entry
   L = line M right l
@@ -121,14 +137,17 @@ module _ (rule : Rule) (p : Phases) (M : Matrix) (right : Bool) (Q P : ℕ → B
   moved-place : moved rule p q L h ≡ moved rule p (level-on right q) (entries M) l
   moved-place = ap₂ (λ (b : Bool) (x : Entry). turned (phase p b) x) (bit-half right l q) (taken-place (rule .flips))
 
-  pub acted-place : acted rule p Q q (line M right l) (half right l) ≡ acted rule p P (level-on right q) (entries M) l
+  abbrev at-level : Entry → Entry → Entry → Entry → Entry
+  at-level mix swap move plain = cond (all-set P l) (cond (rule .mixes) mix (cond (rule .swaps) swap move)) plain
+
+  pub acted-place : acted rule p Q q q′ (line M right l) (half right l) ≡ acted rule p P (level-on right q) (level-on right q′) (entries M) l
   unfolding acted
   acted-place =
-      ap (λ (t : Bool). cond t (cond (rule .mixes) (mixed q L h) (moved rule p q L h)) (L h))
+      ap (λ (t : Bool). cond t (cond (rule .mixes) (mixed q L h) (cond (rule .swaps) (L (exchanged q q′ h)) (moved rule p q L h))) (L h))
       (sym (all-set-half right Q P n l spreads size))
-      ∙ ap₂ (λ (u w : Entry). cond (all-set P l) (cond (rule .mixes) u w) (L h)) mixed-place moved-place
-      ∙ ap (λ (u : Entry). cond (all-set P l) (cond (rule .mixes) (mixed (level-on right q) (entries M) l) (moved rule p (level-on right q) (entries M) l)) u)
-      (line-half M right l)
+      ∙ ap₂ (λ (u w : Entry). at-level u (L (exchanged q q′ h)) w (L h)) mixed-place moved-place
+      ∙ ap₂ (λ (u w : Entry). at-level (mixed (level-on right q) (entries M) l) u (moved rule p (level-on right q) (entries M) l) w)
+      (line-exchanged M right l q q′) (line-half M right l)
 
 -- the phases of a side
 abbrev pub phases-on : Bool → Rule → Phases
@@ -137,10 +156,10 @@ phases-on true rule = rule .right
 
 -- the product with a gate on either side, by place
 pub product-place : (n : ℕ) (right : Bool) (g : Gate) (P : ℕ → Bool) → Fits n g → Spreads right (controls g) P → (M : Matrix) (l : Bits) → length l ≡ levels n
-    → entries (product-on right n g M) l ≡ acted (gate-rule g) (phases-on right (gate-rule g)) P (level-on right (target g)) (entries M) l
+    → entries (product-on right n g M) l ≡ acted (gate-rule g) (phases-on right (gate-rule g)) P (level-on right (target g)) (level-on right (second g)) (entries M) l
 product-place n false g P fits spreads M l size =
     product-left n g fits M (rows l) (columns l) (length-halves n l size .0)
-    ∙ acted-place (gate-rule g) (gate-rule g .left) M false (controls g) P n (target g) l spreads size
+    ∙ acted-place (gate-rule g) (gate-rule g .left) M false (controls g) P n (target g) (second g) l spreads size
 product-place n true g P fits spreads M l size =
     product-right n g fits M (rows l) (columns l) (length-halves n l size .1)
-    ∙ acted-place (gate-rule g) (gate-rule g .right) M true (controls g) P n (target g) l spreads size
+    ∙ acted-place (gate-rule g) (gate-rule g .right) M true (controls g) P n (target g) (second g) l spreads size

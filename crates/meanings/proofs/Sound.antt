@@ -1,7 +1,7 @@
 -- Sound states: sound at a level is valid and asks there or later, and each bit leads to a sound state one level on.
 -- Assumes nothing.
 use mathlib.Core.Path.{_≡_, refl, _∙_, ap, subst, subst⁻¹}
-use mathlib.Core.Bool.{Bool, true, false, cond, _&&_}
+use mathlib.Core.Bool.{Bool, true, false, not, cond, _&&_, Bool·beq}
 use Prim.Native.Nat.{ℕ, suc, _<_, _≤_}
 use native.Mathlib.Omega.{arith}
 use lib.Dec.{eqb}
@@ -11,7 +11,7 @@ use Rattle.gates.specs.Rule.{phase, flipped}
 use Rattle.diagrams.specs.Diagram.{Store, ref-of}
 use Rattle.transitions.specs.declared.State.{State}
 use Rattle.transitions.specs.Plan.{Plan, plan-rule}
-use Rattle.transitions.specs.State.{level-of, Mode, turning, adding, subtracting, waiting, choosing, mode-of, top-by, top}
+use Rattle.transitions.specs.State.{level-of, Mode, turning, adding, subtracting, waiting, swapping, choosing, mode-of, top-by, top}
 use Rattle.transitions.specs.Next.{mode-code, on-both, on-one, cofactor, paired, chosen, at-target, next-by, next-state}
 use Rattle.transitions.specs.Valid.{ValidPlan, ValidState, Passed, Suits}
 use Rattle.transitions.proofs.Codes.{Codes, mode-of-code}
@@ -26,6 +26,7 @@ Ahead plan level (turning e) = Unit {0}
 Ahead plan level adding = Unit {0}
 Ahead plan level subtracting = Unit {0}
 Ahead plan level (waiting k) = level ≤ plan .stage k
+Ahead plan level (swapping k b) = level ≤ plan .stage k
 Ahead plan level (choosing k e) = level ≤ plan .stage k
 
 pub record Sound (plan : Plan) (s : Store Entry) (level : ℕ) (m : Mode) (x y : ℕ) : Type 0 where
@@ -50,6 +51,7 @@ module _ (plan : Plan) (s : Store Entry) where
   least-top level adding x y sound = let a = sound .x-asks .from in let b = sound .y-asks .from in omega arith
   least-top level subtracting x y sound = let a = sound .x-asks .from in let b = sound .y-asks .from in omega arith
   least-top level (waiting k) x y sound = let a = sound .x-asks .from in let h = sound .ahead in omega arith
+  least-top level (swapping k b) x y sound = let a = sound .x-asks .from in let b = sound .y-asks .from in let h = sound .ahead in omega arith
   least-top level (choosing k e) x y sound = let a = sound .x-asks .from in let b = sound .y-asks .from in let h = sound .ahead in omega arith
 
   pub sound-top : (level : ℕ) (σ : State) → SoundAt plan s level σ → level ≤ top plan s σ
@@ -61,6 +63,7 @@ module _ (plan : Plan) (s : Store Entry) where
   suits-later level later adding x y h suits = suits
   suits-later level later subtracting x y h suits = suits
   suits-later level later (waiting k) x y h suits = (suits .0, suits .1, passed-later plan k level later h (suits .2))
+  suits-later level later (swapping k b) x y h suits = (suits .0, suits .1, passed-later plan k level later h (suits .2))
   suits-later level later (choosing k e) x y h suits = (suits .0, suits .1, suits .2, passed-later plan k level later h (suits .3))
 
   pub sound-valid : (level : ℕ) (σ : State) → SoundAt plan s level σ → ValidState plan s σ
@@ -79,6 +82,7 @@ module _ (plan : Plan) (s : Store Entry) where
   top-first level (waiting k) x y h suits =
       let a : level ≤ level-of plan s (ref-of x) = omega arith in
       (a, subst (λ (z : ℕ). level ≤ level-of plan s (ref-of z)) (suits .1) a, omega arith)
+  top-first level (swapping k b) x y h suits = (omega arith, omega arith, omega arith)
   top-first level (choosing k e) x y h suits = (omega arith, omega arith, omega arith)
 
   -- a valid state is sound from where its last stage was passed up to its top
@@ -105,6 +109,7 @@ module _ (plan : Plan) (s : Store Entry) where
   top-most-by plan-valid adding x y asks = let a = level-most plan s plan-valid (ref-of x) (asks .refers) in omega arith
   top-most-by plan-valid subtracting x y asks = let a = level-most plan s plan-valid (ref-of x) (asks .refers) in omega arith
   top-most-by plan-valid (waiting k) x y asks = let a = level-most plan s plan-valid (ref-of x) (asks .refers) in omega arith
+  top-most-by plan-valid (swapping k b) x y asks = let a = level-most plan s plan-valid (ref-of x) (asks .refers) in omega arith
   top-most-by plan-valid (choosing k e) x y asks = let a = level-most plan s plan-valid (ref-of x) (asks .refers) in omega arith
 
   pub top-most : ValidPlan plan s → (σ : State) → ValidState plan s σ → top plan s σ ≤ plan .levels
@@ -133,7 +138,7 @@ module _ (plan : Plan) (s : Store Entry) (valid : ValidPlan plan s) (level : ℕ
     paired-sound true = paired-sound-by subtracting tt tt tt
     paired-sound false = paired-sound-by adding tt tt tt
 
-    pub chosen-sound : (k e : ℕ) → e < 8 → k ≤ plan .stages → plan .target < k → Passed plan k level → (k < plan .stages → level ≤ plan .stage k)
+    pub chosen-sound : (k e : ℕ) → e < 8 → k ≤ plan .stages → plan .second < k → Passed plan k level → (k < plan .stages → level ≤ plan .stage k)
         → SoundAt plan s level (chosen plan k e x y)
     unfolding chosen
     chosen-sound k e small up-to past passed ahead = by-tests (eqb k (plan .stages)) refl (eqb e 0 && eqb x y)
@@ -159,21 +164,38 @@ module _ (plan : Plan) (s : Store Entry) (valid : ValidPlan plan s) (level : ℕ
   stage-after : (k : ℕ) → plan .stage k ≡ level → suc k < plan .stages → suc level ≤ plan .stage (suc k)
   stage-after k here more = let rises = valid .stages-ascend k (suc k) (omega arith) more in omega arith
 
+  swapping-sound : (k x y : ℕ) (seen : Bool) → plan .target < k → k ≤ plan .second → Asks plan s (suc level) x → Asks plan s (suc level) y
+      → Passed plan k (suc level) → suc level ≤ plan .stage k → SoundAt plan s (suc level) (on-both (swapping k seen) x y)
+  swapping-sound k x y seen past up-to x-asks y-asks passed ahead =
+      let last = valid .has-second in
+      let most = valid .few-stages in
+      sound-on plan s (suc level) (swapping k seen) x y (omega arith)
+      (record { x-asks = x-asks; y-asks = y-asks; suits = (past, up-to, passed); ahead = ahead })
+
   at-target-sound : (x : ℕ) → Asks plan s level x → Passed plan (plan .target) level → plan .stage (plan .target) ≡ level
       → SoundAt plan s (suc level) (at-target plan s level b (suc (plan .target)) x)
   unfolding at-target
-  at-target-sound x asks passed here = by-mixes (plan .mixes)
+  at-target-sound x asks passed here = by-action (plan .mixes) (plan .swaps) refl
     where
-      by-mixes : (mixes : Bool) → SoundAt plan s (suc level) (cond mixes
+      by-action : (mixes swaps : Bool) → plan .swaps ≡ swaps → SoundAt plan s (suc level) (cond mixes
           (paired plan (cond b 9 8) (cofactor s level false x) (cofactor s level true x))
-          (chosen plan (suc (plan .target)) (phase (plan .phases) b) (cofactor s level b x) (cofactor s level (flipped (plan-rule plan) b) x)))
-      by-mixes true = paired-sound plan s valid (suc level) (cofactor s level false x) (cofactor s level true x) (after x false asks) (after x true asks) b
-      by-mixes false =
+          (cond swaps
+          (on-both (swapping (suc (plan .target)) b) (cofactor s level b x) (cofactor s level (not b) x))
+          (chosen plan (suc (plan .target)) (phase (plan .phases) b) (cofactor s level b x) (cofactor s level (flipped (plan-rule plan) b) x))))
+      by-action true swaps e =
+          paired-sound plan s valid (suc level) (cofactor s level false x) (cofactor s level true x) (after x false asks) (after x true asks) b
+      by-action false true e =
+          let first = valid .target-first e in
+          let last = valid .has-second in
+          swapping-sound (suc (plan .target)) (cofactor s level b x) (cofactor s level (not b) x) b (omega arith) (omega arith)
+          (after x b asks) (after x (not b) asks) (passed-stage plan (plan .target) level passed here) (stage-after (plan .target) here (omega arith))
+      by-action false false e =
+          let same = valid .target-only e in
           chosen-sound plan s valid (suc level) (cofactor s level b x) (cofactor s level (flipped (plan-rule plan) b) x) (after x b asks)
           (after x (flipped (plan-rule plan) b) asks) (suc (plan .target)) (phase (plan .phases) b) (phase-small plan s valid b)
           (valid .has-target) (omega arith) (passed-stage plan (plan .target) level passed here) (stage-after (plan .target) here)
 
-  few : (k : ℕ) → k < plan .stages → k < 48
+  few : (k : ℕ) → k < plan .stages → k < 16
   few k below = let most = valid .few-stages in omega arith
 
   waiting-sound : (k x : ℕ) → k ≤ plan .target → Asks plan s (suc level) x → Passed plan k (suc level) → suc level ≤ plan .stage k
@@ -219,6 +241,47 @@ module _ (plan : Plan) (s : Store Entry) (valid : ValidPlan plan s) (level : ℕ
       by-stage false e =
           waiting-sound k (cofactor s level b x) (sound .suits .0) own (passed-later plan k level (suc level) (omega arith) (sound .suits .2))
           (strictly (sound .ahead) (eqb-false _ _ e))
+  next-sound-by (swapping k seen) x y sound = by-stage (eqb (plan .stage k) level) refl
+    where
+      own : Asks plan s (suc level) (cofactor s level b x)
+      own = after x b (sound .x-asks)
+
+      plain : SoundAt plan s (suc level) (on-one (turning 0) (cofactor s level b x))
+      plain = alone-sound plan s valid (suc level) 0 (cofactor s level b x) (omega arith) own
+
+      at-second : plan .stage k ≡ level → plan .second ≡ k → (same : Bool) → SoundAt plan s (suc level) (cond same
+          (on-one (turning 0) (cofactor s level b x)) (chosen plan (suc k) 0 (cofactor s level b x) (cofactor s level seen y)))
+      at-second here is-second true = plain
+      at-second here is-second false =
+          let last = valid .has-second in
+          chosen-sound plan s valid (suc level) (cofactor s level b x) (cofactor s level seen y) own (after y seen (sound .y-asks)) (suc k) 0 (omega arith)
+          (omega arith) (omega arith) (passed-stage plan k level (sound .suits .2) here) (stage-after k here)
+
+      at-control : plan .stage k ≡ level → (plan .second ≡ k → ⊥) → (c : Bool) → SoundAt plan s (suc level) (cond c
+          (on-both (swapping (suc k) seen) (cofactor s level b x) (cofactor s level b y)) (on-one (turning 0) (cofactor s level b x)))
+      at-control here other true =
+          let past = sound .suits .0 in
+          let last = valid .has-second in
+          let more = strictly (sound .suits .1) other in
+          swapping-sound (suc k) (cofactor s level b x) (cofactor s level b y) seen (omega arith) more own (after y b (sound .y-asks))
+          (passed-stage plan k level (sound .suits .2) here) (stage-after k here (omega arith))
+      at-control here other false = plain
+
+      at-stage : plan .stage k ≡ level → (t : Bool) → eqb (plan .second) k ≡ t → SoundAt plan s (suc level) (cond t
+          (cond (Bool·beq b seen) (on-one (turning 0) (cofactor s level b x)) (chosen plan (suc k) 0 (cofactor s level b x) (cofactor s level seen y)))
+          (cond b (on-both (swapping (suc k) seen) (cofactor s level b x) (cofactor s level b y)) (on-one (turning 0) (cofactor s level b x))))
+      at-stage here true e = at-second here (eqb-true _ _ e) (Bool·beq b seen)
+      at-stage here false e = at-control here (eqb-false _ _ e) b
+
+      by-stage : (t : Bool) → eqb (plan .stage k) level ≡ t → SoundAt plan s (suc level) (cond t
+          (cond (eqb (plan .second) k)
+          (cond (Bool·beq b seen) (on-one (turning 0) (cofactor s level b x)) (chosen plan (suc k) 0 (cofactor s level b x) (cofactor s level seen y)))
+          (cond b (on-both (swapping (suc k) seen) (cofactor s level b x) (cofactor s level b y)) (on-one (turning 0) (cofactor s level b x))))
+          (on-both (swapping k seen) (cofactor s level b x) (cofactor s level b y)))
+      by-stage true e = at-stage (eqb-true _ _ e) (eqb (plan .second) k) refl
+      by-stage false e =
+          swapping-sound k (cofactor s level b x) (cofactor s level b y) seen (sound .suits .0) (sound .suits .1) own (after y b (sound .y-asks))
+          (passed-later plan k level (suc level) (omega arith) (sound .suits .2)) (strictly (sound .ahead) (eqb-false _ _ e))
   next-sound-by (choosing k e) x y sound = by-stage (eqb (plan .stage k) level) refl
     where
       own : Asks plan s (suc level) (cofactor s level b x)

@@ -11,10 +11,11 @@ use lib.Dec.{eqb}
 use borrow.Author.Tests.{eq-eqb, ne-eqb}
 use Rattle.algebra.specs.declared.Entry.{Entry}
 use Rattle.algebra.specs.Matrix.{Bits}
-use Rattle.gates.specs.Rule.{phase, all-set}
+use Rattle.gates.specs.Gate.{all-set}
+use Rattle.gates.specs.Rule.{phase}
 use Rattle.gates.proofs.LocalRules.{all-set-none}
 use Rattle.diagrams.specs.Diagram.{Store}
-use Rattle.transitions.specs.Plan.{Plan, among, control}
+use Rattle.transitions.specs.Plan.{Plan, among, targeted, control}
 use Rattle.transitions.specs.Valid.{ValidPlan, Passed}
 use Rattle.transitions.proofs.Turns.{phase-below}
 
@@ -83,29 +84,62 @@ module _ (plan : Plan) (s : Store Entry) (valid : ValidPlan plan s) where
       by-order (yes less) = let rises = valid .stages-ascend k (plan .target) less (valid .has-target) in omega arith
       by-order (no last) = let same : k ≡ plan .target = omega arith in omega (arith, ap (plan .stage) same)
 
+  -- the target is not after the second
+  pub target-up-to : plan .target ≤ plan .second
+  target-up-to = by-swaps (plan .swaps) refl
+    where
+      by-swaps : (b : Bool) → plan .swaps ≡ b → plan .target ≤ plan .second
+      by-swaps true e = let first = valid .target-first e in omega arith
+      by-swaps false e = let same = valid .target-only e in omega arith
+
+  -- nor is the second's stage before one up to it
+  pub second-ahead : (k level : ℕ) → k ≤ plan .second → level < plan .stage k → level < plan .stage (plan .second)
+  second-ahead k level up-to ahead = by-order (decLt k (plan .second))
+    where
+      by-order : Dec (k < plan .second) → level < plan .stage (plan .second)
+      by-order (yes less) = let rises = valid .stages-ascend k (plan .second) less (valid .has-second) in omega arith
+      by-order (no last) = let same : k ≡ plan .second = omega arith in omega (arith, ap (plan .stage) same)
+
   pub phase-small : (b : Bool) → phase (plan .phases) b < 8
   phase-small b = phase-below (plan .phases) b refl (valid .phase-zero) (valid .phase-one)
 
   -- ---- where a control is
 
   pub control-none : (level : ℕ) → ((j : ℕ) → j < plan .stages → plan .stage j ≡ level → ⊥) → control plan level ≡ false
-  control-none level none = ap (λ (b : Bool). b && not (eqb level (plan .stage (plan .target)))) (among-none (plan .stages) (plan .stage) level none)
+  control-none level none = ap (λ (b : Bool). b && not (targeted plan level)) (among-none (plan .stages) (plan .stage) level none)
 
-  -- not at the target
+  no-target : (level : ℕ) → targeted plan level ≡ true → control plan level ≡ false
+  no-target level e = ap (λ (b : Bool). among (plan .stages) (plan .stage) level && not b) e ∙ and-false (among (plan .stages) (plan .stage) level)
+
+  -- not at a target
   pub control-target : (level : ℕ) → plan .stage (plan .target) ≡ level → control plan level ≡ false
   control-target level here =
-      ap (λ (b : Bool). among (plan .stages) (plan .stage) level && not b) (eq-eqb level (plan .stage (plan .target)) (sym here))
-      ∙ and-false (among (plan .stages) (plan .stage) level)
+      no-target level (ap (λ (b : Bool). b || eqb level (plan .stage (plan .second))) (eq-eqb level (plan .stage (plan .target)) (sym here)))
+
+  pub control-second : (level : ℕ) → plan .stage (plan .second) ≡ level → control plan level ≡ false
+  control-second level here =
+      no-target level (ap (λ (b : Bool). eqb level (plan .stage (plan .target)) || b) (eq-eqb level (plan .stage (plan .second)) (sym here))
+      ∙ or-true (eqb level (plan .stage (plan .target))))
+    where
+      or-true : (b : Bool) → (b || true) ≡ true
+      or-true true = refl
+      or-true false = refl
+
+  -- stages that are not one are at different levels
+  stages-apart : (j k : ℕ) → j < plan .stages → k < plan .stages → (j ≡ k → ⊥) → plan .stage k ≡ plan .stage j → ⊥
+  stages-apart j k h below other e = by-order (decLt j k)
+    where
+      by-order : Dec (j < k) → ⊥
+      by-order (yes less) = let rises = valid .stages-ascend j k less below in omega arith
+      by-order (no not-less) = let rises = valid .stages-ascend k j (omega (arith, other)) h in omega arith
 
   -- at any other stage
-  pub control-stage : (k level : ℕ) → k < plan .stages → plan .stage k ≡ level → (plan .target ≡ k → ⊥) → control plan level ≡ true
-  control-stage k level below here other =
+  pub control-stage : (k level : ℕ) → k < plan .stages → plan .stage k ≡ level → (plan .target ≡ k → ⊥) → (plan .second ≡ k → ⊥) → control plan level ≡ true
+  control-stage k level below here other other′ =
       ap₂ (λ (a b : Bool). a && not b) (among-one (plan .stages) (plan .stage) level k below here)
-      (ne-eqb level (plan .stage (plan .target)) (λ e. apart (decLt k (plan .target)) (here ∙ e)))
-    where
-      apart : Dec (k < plan .target) → plan .stage k ≡ plan .stage (plan .target) → ⊥
-      apart (yes less) e = let rises = valid .stages-ascend k (plan .target) less (valid .has-target) in omega arith
-      apart (no more) e = let rises = valid .stages-ascend (plan .target) k (omega arith) below in omega arith
+      (ap₂ _||_
+      (ne-eqb level (plan .stage (plan .target)) (λ e. stages-apart (plan .target) k (valid .has-target) below other (here ∙ e)))
+      (ne-eqb level (plan .stage (plan .second)) (λ e. stages-apart (plan .second) k (valid .has-second) below other′ (here ∙ e))))
 
   -- not between two stages
   pub control-between : (k level : ℕ) → k < plan .stages → Passed plan k level → level < plan .stage k → control plan level ≡ false

@@ -1,21 +1,23 @@
 -- The start of a step's walk: with a plan for a gate, from the root of a matrix's diagram, it makes the diagram of the product.
 -- Assumes nothing.
 use mathlib.Core.Path.{_≡_, refl, sym, _∙_, ap, ap₂, subst, fun-ext, _≡⟨_⟩_, _∎}
-use mathlib.Core.Bool.{Bool, true, false, not, cond, true≢false}
-use Prim.Native.Nat.{ℕ, zero, _+_, _-_, _*_, _<_, _≤_, zero-le}
+use mathlib.Core.Bool.{Bool, true, false, not, cond, _&&_, _||_, true≢false}
+use Prim.Native.Nat.{ℕ, zero, _+_, _-_, _*_, _<_, _≤_, zero-le, min, max}
+use native.Mathlib.Decide.{decLt}
 use native.Mathlib.Nat.{zero-add, sub-zero}
 use native.Mathlib.Omega.{arith}
 use lib.Dec.{eqb}
 use lib.ListN.{length, getD, set, length-set}
-use borrow.Author.Tests.{eqb-true, eqb-false}
+use borrow.Author.Tests.{eq-eqb, ne-eqb}
 use Rattle.algebra.specs.declared.Entry.{Entry}
 use Rattle.algebra.specs.Entry.{𝟘, _⊕_, _⊖_, turned}
 use Rattle.algebra.specs.Matrix.{Bits, Matrix, everywhere}
 use Rattle.algebra.specs.Width.{entryInWidth}
 use Rattle.gates.specs.declared.Phases.{Phases}
 use Rattle.gates.specs.declared.Rule.{Rule}
-use Rattle.gates.specs.Gate.{X, Y, Z, H, S, S†, T, T†, Pair, CNOT, CZ, Gate, on, pair, is, bit, Fits}
-use Rattle.gates.specs.Rule.{phases, phase, pair-rule, gate-rule, controls, target, all-set, mixed, moved, acted}
+use Rattle.gates.specs.Gate.{Kind, X, Y, Z, H, S, S†, T, T†, Pair, CNOT, CZ, Gate, on, pair, toffoli, fredkin}
+use Rattle.gates.specs.Gate.{is, bit, in-mask, all-set, exchanged, names, Fits}
+use Rattle.gates.specs.Rule.{phases, phase, kind-rule, pair-rule, gate-rule, controls, target, second, mixed, moved, acted}
 use Rattle.gates.proofs.Naming.{is-refl, is-sound}
 use Rattle.diagrams.specs.Diagram.{Ref, code, Store, reached, ref-of}
 use Rattle.diagrams.specs.Diagram.{levels, entries, same-entry, empty, reduce, diagram}
@@ -24,12 +26,13 @@ use Rattle.diagrams.proofs.Unique.{Walked, walked}
 use Rattle.diagrams.proofs.Places.{levels-double}
 use Rattle.diagrams.proofs.Diagrams.{diagram-reduced}
 use Rattle.diagrams.proofs.References.{ref-of-code}
-use Rattle.transitions.specs.Plan.{Plan, plan-rule, control}
+use Rattle.transitions.specs.Plan.{Plan, plan-rule, among, targeted, control}
 use Rattle.transitions.specs.State.{waiting, meaning, made, inside}
 use Rattle.transitions.specs.Next.{start}
 use Rattle.transitions.specs.Valid.{IsZero, ValidPlan, ValidState}
 use Rattle.plans.specs.Prepare.{as-number, side-level, product-on, PlanFor}
-use Rattle.meanings.proofs.Stages.{control-none, control-target, control-stage}
+use Rattle.plans.proofs.Plans.{names-fit}
+use Rattle.meanings.proofs.Stages.{among-none, among-one}
 use Rattle.meanings.proofs.Cofactors.{Asks}
 use Rattle.meanings.proofs.Sound.{SoundAt, sound-on, sound-valid}
 use Rattle.meanings.proofs.Meanings.{meaning-on}
@@ -58,6 +61,8 @@ rule-small (on T q) = omega arith
 rule-small (on T† q) = omega arith
 rule-small (pair CNOT p q) = omega arith
 rule-small (pair CZ p q) = omega arith
+rule-small (toffoli mask q) = omega arith
+rule-small (fredkin mask p q) = omega arith
 
 -- by what the plan has of the data
 chosen-phases : (mixes right : Bool) (l r : Phases) → l .zero < 8 → l .one < 8 → r .zero < 8 → r .one < 8
@@ -75,31 +80,36 @@ on-side : (right : Bool) (rule : Rule) → cond right (rule .right) (rule .left)
 on-side true rule = refl
 on-side false rule = refl
 
-pair-moves : (k : Pair) → pair-rule k .mixes ≡ true → ⊥
-pair-moves CNOT e = true≢false (sym e)
-pair-moves CZ e = true≢false (sym e)
-
 -- ---- the rule, with a plan's data and over entries that agree
 
-acted-alike : (rule rule′ : Rule) (p p′ : Phases) (P : ℕ → Bool) (q : ℕ) (F : Bits → Entry) (l : Bits) → rule .mixes ≡ rule′ .mixes
-    → rule .flips ≡ rule′ .flips → (rule′ .mixes ≡ false → p ≡ p′) → acted rule p P q F l ≡ acted rule′ p′ P q F l
+acted-alike : (rule rule′ : Rule) (p p′ : Phases) (P : ℕ → Bool) (q q′ : ℕ) (F : Bits → Entry) (l : Bits) → rule .mixes ≡ rule′ .mixes
+    → rule .flips ≡ rule′ .flips → rule .swaps ≡ rule′ .swaps → (rule′ .mixes ≡ false → p ≡ p′) → acted rule p P q q′ F l ≡ acted rule′ p′ P q q′ F l
 unfolding acted
-acted-alike rule rule′ p p′ P q F l mixes-same flips-same phases-same =
-    ap₂ (λ (mixes flips : Bool). cond (all-set P l) (cond mixes (mixed q F l) (turned (phase p (bit l q)) (F (cond flips (set l q (not (bit l q))) l)))) (F l))
+acted-alike rule rule′ p p′ P q q′ F l mixes-same flips-same swaps-same phases-same =
+    ap₂ (λ (mixes flips : Bool). cond (all-set P l) (cond mixes (mixed q F l) (cond (rule .swaps) (F (exchanged q q′ l))
+    (turned (phase p (bit l q)) (F (cond flips (set l q (not (bit l q))) l))))) (F l))
     mixes-same flips-same
+    ∙ ap (λ (swaps : Bool). cond (all-set P l) (cond (rule′ .mixes) (mixed q F l) (cond swaps (F (exchanged q q′ l)) (moved rule′ p q F l))) (F l)) swaps-same
     ∙ ap (λ (x : Entry). cond (all-set P l) x (F l)) (by-mixes (rule′ .mixes) refl)
   where
-    by-mixes : (m : Bool) → rule′ .mixes ≡ m → cond m (mixed q F l) (moved rule′ p q F l) ≡ cond m (mixed q F l) (moved rule′ p′ q F l)
-    by-mixes true e = refl
-    by-mixes false e = ap (λ (r : Phases). moved rule′ r q F l) (phases-same e)
+    rest : Phases → Entry
+    rest r = cond (rule′ .swaps) (F (exchanged q q′ l)) (moved rule′ r q F l)
 
-acted-ext : (rule : Rule) (p : Phases) (P : ℕ → Bool) (q : ℕ) (F G : Bits → Entry) (l : Bits) → ((m : Bits) → length m ≡ length l → F m ≡ G m)
-    → acted rule p P q F l ≡ acted rule p P q G l
+    by-mixes : (m : Bool) → rule′ .mixes ≡ m → cond m (mixed q F l) (rest p) ≡ cond m (mixed q F l) (rest p′)
+    by-mixes true e = refl
+    by-mixes false e = ap rest (phases-same e)
+
+acted-ext : (rule : Rule) (p : Phases) (P : ℕ → Bool) (q q′ : ℕ) (F G : Bits → Entry) (l : Bits) → ((m : Bits) → length m ≡ length l → F m ≡ G m)
+    → acted rule p P q q′ F l ≡ acted rule p P q q′ G l
 unfolding acted
-acted-ext rule p P q F G l same =
-    ap₂ (λ (x y : Entry). cond (all-set P l) (cond (rule .mixes) (cond (bit l q) (x ⊖ y) (x ⊕ y)) (moved rule p q F l)) (F l))
+acted-ext rule p P q q′ F G l same =
+    ap₂ (λ (x y : Entry). cond (all-set P l) (cond (rule .mixes) (cond (bit l q) (x ⊖ y) (x ⊕ y))
+    (cond (rule .swaps) (F (exchanged q q′ l)) (moved rule p q F l))) (F l))
     (same (set l q false) (length-set l q false)) (same (set l q true) (length-set l q true))
-    ∙ ap₂ (λ (x y : Entry). cond (all-set P l) (cond (rule .mixes) (mixed q G l) (turned (phase p (bit l q)) x)) y) (taken (rule .flips)) (same l refl)
+    ∙ ap (λ (x : Entry). cond (all-set P l) (cond (rule .mixes) (mixed q G l) (cond (rule .swaps) x (moved rule p q F l))) (F l))
+    (same (exchanged q q′ l) (length-set (set l q (bit l q′)) q′ (bit l q) ∙ length-set l q (bit l q′)))
+    ∙ ap₂ (λ (x y : Entry). cond (all-set P l) (cond (rule .mixes) (mixed q G l) (cond (rule .swaps) (G (exchanged q q′ l)) (turned (phase p (bit l q)) x))) y)
+    (taken (rule .flips)) (same l refl)
   where
     taken : (flips : Bool) → F (cond flips (set l q (not (bit l q))) l) ≡ G (cond flips (set l q (not (bit l q))) l)
     taken true = same (set l q (not (bit l q))) (length-set l q (not (bit l q)))
@@ -112,64 +122,46 @@ side-below : (n q : ℕ) (right : Bool) → q < n → side-level (as-number righ
 side-below n q true h = let double = levels-double n in omega arith
 side-below n q false h = let double = levels-double n in omega arith
 
--- the stages of a plan for a gate, and where it has controls
-record Placed (right : Bool) (g : Gate) (plan : Plan) : Type 0 where
-  few : plan .stages ≤ 2
-  has-target : plan .target < plan .stages
-  ascend : (j k : ℕ) → j < k → k < plan .stages → plan .stage j < plan .stage k
-  below : (k : ℕ) → k < plan .stages → plan .stage k < plan .levels
-  alone : plan .mixes ≡ true → plan .stages ≡ 1
-  target-at : plan .stage (plan .target) ≡ side-level (as-number right) (target g)
+side-apart : (side p q : ℕ) → side-level side p ≡ side-level side q → p ≡ q
+side-apart side p q e = omega arith
 
--- the two stages of a control and a target are all stages
-pair-stage : (plan : Plan) (P : ℕ → Type 0) → plan .stages ≡ 2 → plan .target < 2 → P (plan .target) → P (1 - plan .target) → (k : ℕ) → k < plan .stages → P k
-pair-stage plan P two small at-target at-control k below = by-test (eqb k (plan .target)) refl
+-- what the gates' data say of their qubits: one that mixes names one qubit, and two targets are there just where it swaps
+kind-mixes : (g : Gate) → gate-rule g .mixes ≡ true → (i : ℕ) → names g i ≡ true → target g ≡ i
+kind-mixes (on k q) e i named = is-sound q i named
+kind-mixes (pair CNOT p q) e i named = absurd (true≢false (sym e))
+kind-mixes (pair CZ p q) e i named = absurd (true≢false (sym e))
+kind-mixes (toffoli mask q) e i named = absurd (true≢false (sym e))
+kind-mixes (fredkin mask p q) e i named = absurd (true≢false (sym e))
+
+kind-swaps : (k : Kind) → kind-rule k .swaps ≡ true → ⊥
+kind-swaps X e = true≢false (sym e)
+kind-swaps Y e = true≢false (sym e)
+kind-swaps Z e = true≢false (sym e)
+kind-swaps H e = true≢false (sym e)
+kind-swaps S e = true≢false (sym e)
+kind-swaps S† e = true≢false (sym e)
+kind-swaps T e = true≢false (sym e)
+kind-swaps T† e = true≢false (sym e)
+
+swaps-two : (n : ℕ) (g : Gate) → Fits n g → gate-rule g .swaps ≡ true → target g < second g
+swaps-two n (on k q) fits e = absurd (kind-swaps k e)
+swaps-two n (pair CNOT p q) fits e = absurd (true≢false (sym e))
+swaps-two n (pair CZ p q) fits e = absurd (true≢false (sym e))
+swaps-two n (toffoli mask q) fits e = absurd (true≢false (sym e))
+swaps-two n (fredkin mask p q) fits e = by-order (decLt p q)
   where
-    by-test : (b : Bool) → eqb k (plan .target) ≡ b → P k
-    by-test true e = subst P (sym (eqb-true _ _ e)) at-target
-    by-test false e = let other = eqb-false _ _ e in subst P (the-other other) at-control
+    by-order : Dec (p < q) → min p q < max p q
+    by-order (yes less) = omega arith
+    by-order (no more) = let apart = fits .3 in further apart
       where
-        the-other : (k ≡ plan .target → ⊥) → 1 - plan .target ≡ k
-        the-other other = omega arith
+        further : (p ≡ q → ⊥) → min p q < max p q
+        further apart = omega arith
 
-placed : (n : ℕ) (right : Bool) (g : Gate) (plan : Plan) → Fits n g → PlanFor n right g plan → Placed right g plan
-placed n right (on k q) plan fits for =
-    let one = for .stages-are .0 in
-    let first = for .stages-are .1 in
-    let at = for .stages-are .2 in
-    let up-to = side-below n q right fits in
-    let all = for .levels-are in
-    record {
-      few = omega arith;
-      has-target = omega arith;
-      ascend = λ j m less below. absurd (none j m one less below);
-      below = λ m below. let is-first : m ≡ 0 = omega arith in omega (arith, ap (plan .stage) is-first);
-      alone = λ mixes. one;
-      target-at = ap (plan .stage) first ∙ at;
-    }
-  where
-    none : (j m : ℕ) → plan .stages ≡ 1 → j < m → m < plan .stages → ⊥
-    none j m one less below = omega arith
-placed n right (pair k p q) plan fits for =
-    let two = for .stages-are .0 in
-    let small = for .stages-are .1 in
-    let rises = for .stages-are .2 in
-    let all = for .levels-are in
-    let target-below = side-below n q right (fits .1) in
-    let control-below = side-below n p right (fits .0) in
-    let at-target = for .stages-are .3 in
-    let at-control = for .stages-are .4 in
-    record {
-      few = omega arith;
-      has-target = omega arith;
-      ascend = λ j m less below.
-          let is-first : j ≡ 0 = omega arith in
-          let is-second : m ≡ 1 = omega arith in
-          omega (arith, ap (plan .stage) is-first, ap (plan .stage) is-second);
-      below = pair-stage plan (λ m. plan .stage m < plan .levels) two small (omega arith) (omega arith);
-      alone = λ mixes. absurd (pair-moves k (sym (for .mixes-are) ∙ mixes));
-      target-at = at-target;
-    }
+keeps-one : (g : Gate) → gate-rule g .swaps ≡ false → second g ≡ target g
+keeps-one (on k q) e = refl
+keeps-one (pair k p q) e = refl
+keeps-one (toffoli mask q) e = refl
+keeps-one (fredkin mask p q) e = absurd (true≢false e)
 
 -- ---- the source's zero
 
@@ -193,87 +185,174 @@ zero-absent s few = ((λ j below here. absurd (even j here)), (λ i below here. 
     past : (i : ℕ) → i < length (s .nodes) → 2 * i + 1 ≡ 4294967293 → ⊥
     past i below here = omega arith
 
--- ---- the store of a diagram is a source of any plan for a gate
-
-pub plan-valid : (n : ℕ) (right : Bool) (g : Gate) (M : Matrix) (plan : Plan) → Fits n g → PlanFor n right g plan
-    → IsZero (diagram n M .store) (plan .zero) → ValidPlan plan (diagram n M .store)
-plan-valid n right g M plan fits for is-zero =
-    let 𝓡 = diagram-reduced n M in
-    let at = placed n right g plan fits for in
-    let (a, b, c, d) = rule-small g in
-    let small = chosen-phases (gate-rule g .mixes) right (gate-rule g .left) (gate-rule g .right) a b c d in
-    let few = at .few in
-    record {
-      levels-below = λ i h. let up-to = 𝓡 .reduced .tidy .levels-below i h in let all = for .levels-are in omega arith;
-      levels-rise = 𝓡 .reduced .tidy .levels-rise;
-      closed = diagram-closed n M .closed;
-      few-stages = omega arith;
-      has-target = at .has-target;
-      stages-ascend = at .ascend;
-      stages-below = at .below;
-      mixes-alone = at .alone;
-      phase-zero = let is = ap (λ (p : Phases). p .zero) (for .phases-are) in let below = small .0 in omega arith;
-      phase-one = let is = ap (λ (p : Phases). p .one) (for .phases-are) in let below = small .1 in omega arith;
-      zero-value = is-zero .0;
-      zero-no-node = is-zero .1;
-    }
-
--- ---- its controls are the gate's, by level
-
-level-apart : (right : Bool) (p q : ℕ) → (p ≡ q → ⊥) → level-on right p ≡ level-on right q → ⊥
-level-apart false p q apart e = let a = levels-double p in let b = levels-double q in apart (omega arith)
-level-apart true p q apart e = let a = levels-double p in let b = levels-double q in apart (omega arith)
-
 sides-apart : (right : Bool) (p q : ℕ) → level-on right p ≡ level-on (not right) q → ⊥
 sides-apart false p q e = let a = levels-double p in let b = levels-double q in omega arith
 sides-apart true p q e = let a = levels-double p in let b = levels-double q in omega arith
 
-module _ (n : ℕ) (right : Bool) (plan : Plan) (s : Store Entry) (valid : ValidPlan plan s) where
-  -- no control where every stage but the target's is elsewhere
-  no-control : (level : ℕ) → ((j : ℕ) → j < plan .stages → (plan .target ≡ j → ⊥) → plan .stage j ≡ level → ⊥) → control plan level ≡ false
-  no-control level elsewhere = by-test (eqb (plan .stage (plan .target)) level) refl
+-- what a gate names and is no target is a control
+named-controls : (n : ℕ) (g : Gate) → Fits n g → (i : ℕ) → (names g i && not (is (target g) i || is (second g) i)) ≡ controls g i
+named-controls n (on k q) fits i = none (is q i)
+  where
+    none : (a : Bool) → (a && not (a || a)) ≡ false
+    none true = refl
+    none false = refl
+named-controls n (pair k p q) fits i = cases (is p i) (is q i) refl refl
+  where
+    cases : (a b : Bool) → is p i ≡ a → is q i ≡ b → ((a || b) && not (b || b)) ≡ a
+    cases true true e f = absurd (fits .2 (is-sound p i e ∙ sym (is-sound q i f)))
+    cases true false e f = refl
+    cases false true e f = refl
+    cases false false e f = refl
+named-controls n (toffoli mask q) fits i = cases (in-mask mask i) (is q i) refl refl
+  where
+    cases : (a b : Bool) → in-mask mask i ≡ a → is q i ≡ b → ((a || b) && not (b || b)) ≡ a
+    cases true true e f = absurd (true≢false (sym e ∙ ap (in-mask mask) (sym (is-sound q i f)) ∙ fits .2))
+    cases true false e f = refl
+    cases false true e f = refl
+    cases false false e f = refl
+named-controls n (fredkin mask p q) fits i = by-order (decLt p q)
+  where
+    cases : (a b c : Bool) → in-mask mask i ≡ a → is p i ≡ b → is q i ≡ c → ((a || (b || c)) && not (b || c)) ≡ a
+    cases true true c e f h = absurd (true≢false (sym e ∙ ap (in-mask mask) (sym (is-sound p i f)) ∙ fits .1 .1))
+    cases true false true e f h = absurd (true≢false (sym e ∙ ap (in-mask mask) (sym (is-sound q i h)) ∙ fits .2 .1))
+    cases true false false e f h = refl
+    cases false true c e f h = refl
+    cases false false true e f h = refl
+    cases false false false e f h = refl
+
+    or-comm : (a b : Bool) → (a || b) ≡ (b || a)
+    or-comm true true = refl
+    or-comm true false = refl
+    or-comm false true = refl
+    or-comm false false = refl
+
+    in-order : (is p i || is q i) ≡ (is (min p q) i || is (max p q) i) → (names (fredkin mask p q) i && not (is (min p q) i || is (max p q) i)) ≡ in-mask mask i
+    in-order e = ap (λ (b : Bool). names (fredkin mask p q) i && not b) (sym e) ∙ cases (in-mask mask i) (is p i) (is q i) refl refl refl
+
+    by-order : Dec (p < q) → (names (fredkin mask p q) i && not (is (min p q) i || is (max p q) i)) ≡ in-mask mask i
+    by-order (yes less) =
+        let low : p ≡ min p q = omega arith in
+        let high : q ≡ max p q = omega arith in
+        in-order (ap₂ (λ (a b : ℕ). is a i || is b i) low high)
+    by-order (no more) =
+        let low : q ≡ min p q = omega arith in
+        let high : p ≡ max p q = omega arith in
+        in-order (or-comm (is p i) (is q i) ∙ ap₂ (λ (a b : ℕ). is a i || is b i) low high)
+
+-- ---- the store of a diagram is a source of any plan for a gate
+
+module _ (n : ℕ) (right : Bool) (g : Gate) (plan : Plan) (fits : Fits n g) (for : PlanFor n right g plan) where
+  -- stages at one level are one
+  one-stage : (j k : ℕ) → j < plan .stages → k < plan .stages → plan .stage j ≡ plan .stage k → j ≡ k
+  one-stage j k h h′ e = by-order (decLt j k) (decLt k j)
     where
-      by-test : (b : Bool) → eqb (plan .stage (plan .target)) level ≡ b → control plan level ≡ false
-      by-test true e = control-target plan s valid level (eqb-true _ _ e)
-      by-test false e = control-none plan s valid level (λ j below here. by-target j below here (eqb (plan .target) j) refl)
-        where
-          by-target : (j : ℕ) → j < plan .stages → plan .stage j ≡ level → (t : Bool) → eqb (plan .target) j ≡ t → ⊥
-          by-target j below here true is-target = eqb-false _ _ e (ap (plan .stage) (eqb-true _ _ is-target) ∙ here)
-          by-target j below here false other = elsewhere j below (eqb-false _ _ other) here
+      by-order : Dec (j < k) → Dec (k < j) → j ≡ k
+      by-order (yes less) other = let rises = for .staged .ascend j k less h′ in absurd (omega arith)
+      by-order (no not-less) (yes more) = let rises = for .staged .ascend k j more h in absurd (omega arith)
+      by-order (no not-less) (no not-more) = omega arith
 
-  controls-spread : (g : Gate) → Fits n g → PlanFor n right g plan → Spreads right (controls g) (control plan)
-  controls-spread (on k q) fits for = record { same-side = λ i. none (level-on right i); other-side = λ i. none (level-on (not right) i) }
+  stage-below : (k : ℕ) → k < plan .stages → plan .stage k < plan .levels
+  stage-below k h =
+      let named = for .staged .each-named k h in
+      let at = named .2 in
+      let below = side-below n (named .0) right (names-fit n g fits (named .0) (named .1)) in
+      let all = for .levels-are in
+      omega arith
+
+  first-of-two : plan .swaps ≡ true → plan .target < plan .second
+  first-of-two e = by-order (decLt (plan .target) (plan .second))
     where
-      only : (j : ℕ) → j < plan .stages → (plan .target ≡ j → ⊥) → ⊥
-      only j below other = let one = for .stages-are .0 in let first = for .stages-are .1 in other (omega arith)
+      apart : target g < second g
+      apart = swaps-two n g fits (sym (for .swaps-are) ∙ e)
 
-      none : (level : ℕ) → control plan level ≡ false
-      none level = no-control level (λ j below other here. only j below other)
-  controls-spread (pair k p q) fits for =
-      record { same-side = λ i. by-name i (is p i) refl; other-side = λ i. elsewhere (level-on (not right) i) (sides-apart right p i) }
+      by-order : Dec (plan .target < plan .second) → plan .target < plan .second
+      by-order (yes less) = less
+      by-order (no more) = by-more (decLt (plan .second) (plan .target))
+        where
+          at : plan .stage (plan .target) < plan .stage (plan .second)
+          at = omega (arith, apart, for .target-at, for .second-at)
+
+          by-more : Dec (plan .second < plan .target) → plan .target < plan .second
+          by-more (yes after) = let rises = for .staged .ascend (plan .second) (plan .target) after (for .target-in) in absurd (omega (arith, at))
+          by-more (no same) = let one : plan .target ≡ plan .second = omega arith in absurd (omega (arith, at, ap (plan .stage) one))
+
+  one-target : plan .swaps ≡ false → plan .second ≡ plan .target
+  one-target e =
+      one-stage (plan .second) (plan .target) (for .second-in) (for .target-in)
+      (for .second-at ∙ ap (side-level (as-number right)) (keeps-one g (sym (for .swaps-are) ∙ e)) ∙ sym (for .target-at))
+
+  -- a gate that mixes has one stage
+  alone : plan .mixes ≡ true → plan .stages ≡ 1
+  alone e = by-more (decLt 1 (plan .stages))
     where
-      two : plan .stages ≡ 2
-      two = for .stages-are .0
+      at-target : (k : ℕ) → k < plan .stages → plan .stage k ≡ side-level (as-number right) (target g)
+      at-target k h =
+          let named = for .staged .each-named k h in
+          named .2 ∙ ap (side-level (as-number right)) (sym (kind-mixes g (sym (for .mixes-are) ∙ e) (named .0) (named .1)))
 
-      small : plan .target < 2
-      small = for .stages-are .1
+      by-more : Dec (1 < plan .stages) → plan .stages ≡ 1
+      by-more (yes more) =
+          let same = one-stage 0 1 (omega arith) more (at-target 0 (omega arith) ∙ sym (at-target 1 more)) in absurd (omega arith)
+      by-more (no few) = let some = for .target-in in omega arith
 
-      at-control : plan .stage (1 - plan .target) ≡ level-on right p
-      at-control = for .stages-are .4 ∙ side-level-is right p
+  valid-for : (M : Matrix) → IsZero (diagram n M .store) (plan .zero) → ValidPlan plan (diagram n M .store)
+  valid-for M is-zero =
+      let 𝓡 = diagram-reduced n M in
+      let (a, b, c, d) = rule-small g in
+      let small = chosen-phases (gate-rule g .mixes) right (gate-rule g .left) (gate-rule g .right) a b c d in
+      record {
+        levels-below = λ i h. let up-to = 𝓡 .reduced .tidy .levels-below i h in let all = for .levels-are in omega arith;
+        levels-rise = 𝓡 .reduced .tidy .levels-rise;
+        closed = diagram-closed n M .closed;
+        few-stages = for .staged .few;
+        has-target = for .target-in;
+        has-second = for .second-in;
+        target-first = first-of-two;
+        target-only = one-target;
+        stages-ascend = for .staged .ascend;
+        stages-below = stage-below;
+        mixes-alone = alone;
+        phase-zero = let is = ap (λ (p : Phases). p .zero) (for .phases-are) in let below = small .0 in omega arith;
+        phase-one = let is = ap (λ (p : Phases). p .one) (for .phases-are) in let below = small .1 in omega arith;
+        zero-value = is-zero .0;
+        zero-no-node = is-zero .1;
+      }
 
-      elsewhere : (level : ℕ) → (level-on right p ≡ level → ⊥) → control plan level ≡ false
-      elsewhere level apart = no-control level (λ j below other here. apart (sym at-control ∙ ap (plan .stage) (the-other j below other) ∙ here))
+  -- ---- its controls are the gate's, by level
+
+  among-named : (q : ℕ) (b : Bool) → names g q ≡ b → among (plan .stages) (plan .stage) (side-level (as-number right) q) ≡ b
+  among-named q true e =
+      let found = for .staged .named-each q e in among-one (plan .stages) (plan .stage) (side-level (as-number right) q) (found .0) (found .1) (found .2)
+  among-named q false e = among-none (plan .stages) (plan .stage) (side-level (as-number right) q) (λ j h here.
+      let named = for .staged .each-named j h in
+      true≢false (sym (named .1) ∙ ap (names g) (side-apart (as-number right) (named .0) q (sym (named .2) ∙ here)) ∙ e))
+
+  targeted-named : (q : ℕ) → targeted plan (side-level (as-number right) q) ≡ (is (target g) q || is (second g) q)
+  targeted-named q = ap₂ _||_ (at (target g) (plan .stage (plan .target)) (for .target-at)) (at (second g) (plan .stage (plan .second)) (for .second-at))
+    where
+      at : (t level : ℕ) → level ≡ side-level (as-number right) t → eqb (side-level (as-number right) q) level ≡ is t q
+      at t level here = by-name (is t q) refl
         where
-          the-other : (j : ℕ) → j < plan .stages → (plan .target ≡ j → ⊥) → 1 - plan .target ≡ j
-          the-other j below other = omega (arith, two, small)
+          by-name : (b : Bool) → is t q ≡ b → eqb (side-level (as-number right) q) level ≡ b
+          by-name true e = eq-eqb _ _ (ap (side-level (as-number right)) (sym (is-sound t q e)) ∙ sym here)
+          by-name false e = ne-eqb _ _ (λ same. true≢false (sym (is-refl t) ∙ ap (is t) (side-apart (as-number right) t q (sym here ∙ sym same)) ∙ e))
 
-      by-name : (i : ℕ) (t : Bool) → is p i ≡ t → control plan (level-on right i) ≡ t
-      by-name i true e =
-          control-stage plan s valid (1 - plan .target) (level-on right i) (omega (arith, two, small)) (at-control ∙ ap (level-on right) (is-sound p i e)) apart
-        where
-          apart : plan .target ≡ 1 - plan .target → ⊥
-          apart same = omega (arith, small)
-      by-name i false e = elsewhere (level-on right i) (level-apart right p i (λ same. true≢false (sym (is-refl p) ∙ ap (is p) same ∙ e)))
+  controls-spread : Spreads right (controls g) (control plan)
+  controls-spread = record { same-side = λ q. same q; other-side = λ q. other q }
+    where
+      same : (q : ℕ) → control plan (level-on right q) ≡ controls g q
+      same q =
+          ap (control plan) (sym (side-level-is right q))
+          ∙ ap₂ (λ (a b : Bool). a && not b) (among-named q (names g q) refl) (targeted-named q) ∙ named-controls n g fits q
+
+      other : (q : ℕ) → control plan (level-on (not right) q) ≡ false
+      other q = ap (λ (b : Bool). b && not (targeted plan (level-on (not right) q)))
+          (among-none (plan .stages) (plan .stage) (level-on (not right) q) (λ j h here.
+          let named = for .staged .each-named j h in sides-apart right (named .0) q (sym (side-level-is right (named .0)) ∙ sym (named .2) ∙ here)))
+
+pub plan-valid : (n : ℕ) (right : Bool) (g : Gate) (M : Matrix) (plan : Plan) → Fits n g → PlanFor n right g plan
+    → IsZero (diagram n M .store) (plan .zero) → ValidPlan plan (diagram n M .store)
+plan-valid n right g M plan fits for is-zero = valid-for n right g plan fits for M is-zero
 
 -- ---- the start
 
@@ -303,22 +382,26 @@ module _ (n : ℕ) (right : Bool) (g : Gate) (M : Matrix) (plan : Plan) (fits : 
   start-means l size =
       let rule = gate-rule g in
       let side = phases-on right rule in
+      let act : ℕ → ℕ → (Bits → Entry) → Bits → Entry = acted (plan-rule plan) (plan .phases) (control plan) in
+      let t = level-on right (target g) in
+      let t′ = level-on right (second g) in
       meaning plan source 0 (start root) l
       ≡⟨ meaning-on plan source valid 0 l (waiting 0) (code root) (code root) (omega arith) ⟩
-      acted (plan-rule plan) (plan .phases) (λ i. control plan (0 + i)) (plan .stage (plan .target) - 0) (reached 𝟘 source 0 (ref-of (code root))) l
-      ≡⟨ ap₂ (λ (P : ℕ → Bool) (r : Ref). acted (plan-rule plan) (plan .phases) P (plan .stage (plan .target) - 0) (reached 𝟘 source 0 r) l)
-      (fun-ext (λ i. ap (control plan) (zero-add i))) (ref-of-code root) ⟩
-      acted (plan-rule plan) (plan .phases) (control plan) (plan .stage (plan .target) - 0) (reached 𝟘 source 0 root) l
-      ≡⟨ ap (λ (t : ℕ). acted (plan-rule plan) (plan .phases) (control plan) t (reached 𝟘 source 0 root) l)
-      (sub-zero (plan .stage (plan .target)) ∙ placed n right g plan fits for .target-at ∙ side-level-is right (target g)) ⟩
-      acted (plan-rule plan) (plan .phases) (control plan) (level-on right (target g)) (reached 𝟘 source 0 root) l
-      ≡⟨ acted-alike (plan-rule plan) rule (plan .phases) side (control plan) (level-on right (target g)) (reached 𝟘 source 0 root) l
-      (for .mixes-are) (for .flips-are) (λ moves. for .phases-are ∙ side-phases-is right (rule .mixes) (rule .left) (rule .right) moves ∙ on-side right rule) ⟩
-      acted rule side (control plan) (level-on right (target g)) (reached 𝟘 source 0 root) l
-      ≡⟨ acted-ext rule side (control plan) (level-on right (target g)) (reached 𝟘 source 0 root) (entries M) l
-      (λ m e. diagram-reduced n M .gives m (e ∙ size)) ⟩
-      acted rule side (control plan) (level-on right (target g)) (entries M) l
-      ≡⟨ sym (product-place n right g (control plan) fits (controls-spread n right plan source valid g fits for) M l size) ⟩
+      acted (plan-rule plan) (plan .phases) (λ i. control plan (0 + i)) (plan .stage (plan .target) - 0) (plan .stage (plan .second) - 0)
+      (reached 𝟘 source 0 (ref-of (code root))) l
+      ≡⟨ ap₂ (λ (P : ℕ → Bool) (r : Ref). acted (plan-rule plan) (plan .phases) P (plan .stage (plan .target) - 0) (plan .stage (plan .second) - 0)
+      (reached 𝟘 source 0 r) l) (fun-ext (λ i. ap (control plan) (zero-add i))) (ref-of-code root) ⟩
+      act (plan .stage (plan .target) - 0) (plan .stage (plan .second) - 0) (reached 𝟘 source 0 root) l
+      ≡⟨ ap₂ (λ (a b : ℕ). act a b (reached 𝟘 source 0 root) l)
+      (sub-zero (plan .stage (plan .target)) ∙ for .target-at ∙ side-level-is right (target g))
+      (sub-zero (plan .stage (plan .second)) ∙ for .second-at ∙ side-level-is right (second g)) ⟩
+      act t t′ (reached 𝟘 source 0 root) l
+      ≡⟨ acted-alike (plan-rule plan) rule (plan .phases) side (control plan) t t′ (reached 𝟘 source 0 root) l (for .mixes-are) (for .flips-are) (for .swaps-are)
+      (λ moves. for .phases-are ∙ side-phases-is right (rule .mixes) (rule .left) (rule .right) moves ∙ on-side right rule) ⟩
+      acted rule side (control plan) t t′ (reached 𝟘 source 0 root) l
+      ≡⟨ acted-ext rule side (control plan) t t′ (reached 𝟘 source 0 root) (entries M) l (λ m e. diagram-reduced n M .gives m (e ∙ size)) ⟩
+      acted rule side (control plan) t t′ (entries M) l
+      ≡⟨ sym (product-place n right g (control plan) fits (controls-spread n right g plan fits for) M l size) ⟩
       entries (product-on right n g M) l ∎
 
   all-levels : plan .levels - 0 ≡ levels n

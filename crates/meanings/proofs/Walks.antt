@@ -16,7 +16,7 @@ use Rattle.diagrams.proofs.Tests.{entry-decides}
 use Rattle.diagrams.proofs.Again.{Extends, reduce-step, reduce-ext, reduce-extends, reduce-again, reduce-skip}
 use Rattle.transitions.specs.declared.State.{State}
 use Rattle.transitions.specs.Plan.{Plan}
-use Rattle.transitions.specs.State.{level-of, Mode, turning, adding, subtracting, waiting, choosing, mode-of}
+use Rattle.transitions.specs.State.{level-of, Mode, turning, adding, subtracting, waiting, swapping, choosing, mode-of}
 use Rattle.transitions.specs.State.{meant-by, meaning, top-by, top, made, inside}
 use Rattle.transitions.specs.Source.{Refers}
 use Rattle.transitions.specs.Next.{is-value, is-leaf-by, is-leaf, leaf-by, leaf-entry, next-state}
@@ -160,6 +160,7 @@ module _ (plan : Plan) (s : Store Entry) (valid : ValidPlan plan s) where
   leaf-top-by subtracting (value j) (node i) leaf = absurd (true≢false (sym leaf))
   leaf-top-by subtracting (node i) y leaf = absurd (true≢false (sym leaf))
   leaf-top-by (waiting k) x y leaf = absurd (true≢false (sym leaf))
+  leaf-top-by (swapping k b) x y leaf = absurd (true≢false (sym leaf))
   leaf-top-by (choosing k e) x y leaf = absurd (true≢false (sym leaf))
 
   pub leaf-top : (σ : State) → is-leaf σ ≡ true → top plan s σ ≡ plan .levels
@@ -183,6 +184,11 @@ module _ (plan : Plan) (s : Store Entry) (valid : ValidPlan plan s) where
       let target-below = valid .has-target in
       let below = valid .stages-below k (omega arith) in
       absurd (omega arith)
+  top-leaf-by level (swapping k b) x y u w p q suits past =
+      let up-to = suits .1 in
+      let last = valid .has-second in
+      let below = valid .stages-below k (omega arith) in
+      absurd (omega arith)
   top-leaf-by level (choosing k e) x y u w p q suits past = let below = valid .stages-below k (suits .1) in absurd (omega arith)
 
   pub top-leaf : (σ : State) → ValidState plan s σ → top plan s σ ≡ plan .levels → is-leaf σ ≡ true
@@ -195,6 +201,7 @@ module _ (plan : Plan) (s : Store Entry) (valid : ValidPlan plan s) where
   leaf-means-by level adding x y leaf = ap₂ _⊕_ (reached-nil s level 0 x) (reached-nil s level 0 y)
   leaf-means-by level subtracting x y leaf = ap₂ _⊖_ (reached-nil s level 0 x) (reached-nil s level 0 y)
   leaf-means-by level (waiting k) x y leaf = absurd (true≢false (sym leaf))
+  leaf-means-by level (swapping k b) x y leaf = absurd (true≢false (sym leaf))
   leaf-means-by level (choosing k e) x y leaf = absurd (true≢false (sym leaf))
 
   module _ (σ : State) (leaf : is-leaf σ ≡ true) where

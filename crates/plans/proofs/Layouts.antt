@@ -1,9 +1,9 @@
 -- The layout of a step: what the plan's slots come to, that it is a plan for the gate, and that the tables cleared are fresh.
 -- Assumes nothing.
-use mathlib.Core.Path.{_≡_, refl, sym, _∙_, ap}
+use mathlib.Core.Path.{_≡_, refl, sym, _∙_, ap, subst}
 use mathlib.Core.Bool.{Bool}
 use mathlib.Core.List.{List, [], _∷_}
-use Prim.Native.Nat.{ℕ, _+_, _*_, max}
+use Prim.Native.Nat.{ℕ, _+_, _*_, _^_, _<_, max}
 use native.Mathlib.Omega.{arith}
 use lib.ListN.{length, getD}
 use Rattle.gates.specs.Gate.{Gate}
@@ -96,16 +96,17 @@ module _ (action : Action) (n : ℕ) (sizes : Sizes) (used : Used) (zero : ℕ) 
 
   -- what planning comes to
   pub plans : {zero′ : ℕ} {laid′ l′ : List ℕ} → zero′ ≡ zero → laid′ ≡ laid-out (action .rule .mixes) zero′ (2 * n) sizes used l
-      → l′ ≡ prepared (action .rule) (action .side) (action .control) (action .target) laid′ → l′ ≡ planned action n sizes used zero l
+      → l′ ≡ prepared (action .rule) (action .side) (action .named) (action .low) (action .high) laid′ → l′ ≡ planned action n sizes used zero l
   unfolding planned
   plans of-zero is p =
-      p ∙ ap (prepared (action .rule) (action .side) (action .control) (action .target))
+      p ∙ ap (prepared (action .rule) (action .side) (action .named) (action .low) (action .high))
       (is ∙ ap (λ (z : ℕ). laid-out (action .rule .mixes) z (2 * n) sizes used l) of-zero)
 
-  pub slots-planned : length l ≡ 32 → Slots (planned action n sizes used zero l) (action .rule .mixes) zero (2 * n) sizes used
+  pub slots-planned : length l ≡ 32 → action .named < 2 ^ 16 → Slots (planned action n sizes used zero l) (action .rule .mixes) zero (2 * n) sizes used
   unfolding planned
-  slots-planned size = slots-kept
-      (prepared-keeps (action .rule) (action .side) (action .control) (action .target) laid (length-laid (action .rule .mixes) zero (2 * n) sizes used l size))
+  slots-planned size small = slots-kept
+      (prepared-keeps (action .rule) (action .side) (action .named) (action .low) (action .high) laid
+      (length-laid (action .rule .mixes) zero (2 * n) sizes used l size) small)
       (slots-laid (action .rule .mixes) zero (2 * n) sizes used l size)
 
   -- the plan is one for the gate
@@ -113,9 +114,10 @@ module _ (action : Action) (n : ℕ) (sizes : Sizes) (used : Used) (zero : ℕ) 
   unfolding planned
   planned-for {right} {g} size acts =
       let mixes = gate-rule g .mixes in
-      rw (acts .rule, acts .side, acts .target)
+      rw (acts .rule, acts .side, acts .named, acts .low, acts .high)
       (prepared-plan n right (laid-out mixes zero (2 * n) sizes used l) (length-laid mixes zero (2 * n) sizes used l size)
-      (slots-laid mixes zero (2 * n) sizes used l size .of-levels ∙ sym (levels-double n)) g (action .control) (acts .fits) (acts .control))
+      (slots-laid mixes zero (2 * n) sizes used l size .of-levels ∙ sym (levels-double n)) g (acts .fits)
+      (subst (λ (m : ℕ). m < 2 ^ 16) (acts .named) (acts .small-named)))
 
 -- ---- the tables
 

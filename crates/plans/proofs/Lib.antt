@@ -1,2 +1,4 @@
+pub mod Staging
 pub mod Plans
 pub mod Layouts
+pub mod Levels

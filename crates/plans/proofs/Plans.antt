@@ -1,47 +1,59 @@
--- Plans: what the writes of a plan come to, and that the plan of a gate's data is one for the gate.
+-- Plans: the plan that is written for a gate's data is one for the gate. One argument over the mask of the qubits that it names.
 -- Assumes nothing.
-use mathlib.Core.Path.{_≡_, refl, sym, _∙_, ap, subst}
-use mathlib.Core.Bool.{Bool, true, false, cond, _&&_}
-use mathlib.Core.List.{List, [], _∷_, _++_}
-use Prim.Native.Nat.{ℕ, _+_, _-_, _*_, _<_, _≤_}
+use mathlib.Core.Path.{_≡_, refl, sym, _∙_, ap, ap₂, subst}
+use mathlib.Core.Bool.{Bool, true, false, cond, _&&_, _||_, true≢false}
+use mathlib.Core.List.{List, [], _∷_}
+use mathlib.Core.Logic.{_⊎_, inl, inr}
+use Prim.Native.Nat.{ℕ, zero, suc, _+_, _-_, _*_, _^_, _%_, _<_, _≤_, min, max}
 use native.Mathlib.Decide.{decLt}
+use native.Mathlib.Nat.{zero-add, zero-div}
 use native.Mathlib.Omega.{arith}
+use lib.Count.{ones, ones-le}
 use lib.Dec.{eqb, ltb}
 use lib.ListN.{length, getD, set, length-set}
-use lib.Seq.{getD-set-same, getD-set-other}
-use borrow.Author.Tests.{eq-eqb, ne-eqb, lt-ltb, le-ltb, eqb-true, eqb-false, ltb-true}
+use lib.Pow.{pow-mono}
+use lib.Seq.{getD-set-same, getD-set-other, sets, length-sets}
+use borrow.Author.Tests.{eqb-true, eqb-false, ne-eqb, ltb-true}
+use Rattle.diagrams.proofs.Tests.{both-true}
 use Rattle.gates.specs.declared.Phases.{Phases}
 use Rattle.gates.specs.declared.Rule.{Rule}
-use Rattle.gates.specs.Gate.{Kind, X, Y, Z, H, S, S†, T, T†, Pair, CNOT, CZ, Gate, on, pair, Fits}
-use Rattle.gates.specs.Rule.{kind-rule, pair-rule, gate-rule, target}
+use Rattle.gates.specs.Gate.{Kind, X, Y, Z, H, S, S†, T, T†, Pair, CNOT, CZ, Gate, on, pair, toffoli, fredkin, is, in-mask, names, Fits}
+use Rattle.gates.specs.Rule.{kind-rule, pair-rule, toffoli-rule, fredkin-rule, gate-rule, target, second}
+use Rattle.gates.proofs.Naming.{is-refl, is-sound}
+use Rattle.gates.proofs.Masks.{mask-below, names-below}
 use Rattle.diagrams.specs.Diagram.{levels}
-use Rattle.diagrams.proofs.Tests.{both-true}
-use Rattle.transitions.specs.Plan.{plan-of}
-use Rattle.plans.specs.Prepare.{as-number, side-level, side-phases, with-action, with-stage, with-stages, prepared, Controls, Stages, PlanFor}
+use Rattle.transitions.specs.Plan.{Plan, plan-of}
+use Rattle.plans.specs.Prepare.{as-number, side-level, side-phases, action-number, named-mask, levels-from, with-action, with-stages, prepared}
+use Rattle.plans.specs.Prepare.{Staged-as, PlanFor}
+use Rattle.plans.proofs.Staging.{length-levels, levels-ascend, levels-named, levels-at, in-mask-add}
 
--- ---- the writes
+-- ---- the mask names the gate's qubits
 
-module _ (rule : Rule) (side control target : ℕ) (l acted-on : List ℕ) {p : Phases} (p-is : p ≡ side-phases side rule)
-    (acted-is : acted-on ≡ with-action (rule .flips) (rule .mixes) p l) where
-  action : acted-on ≡ with-action (rule .flips) (rule .mixes) (side-phases side rule) l
-  action = acted-is ∙ ap (λ (q : Phases). with-action (rule .flips) (rule .mixes) q l) p-is
+in-no-mask : (i : ℕ) → in-mask 0 i ≡ false
+in-no-mask i = ap (λ (m : ℕ). eqb (m % 2) 1) (zero-div (2 ^ i))
 
-  pub prepared-one : {written : List ℕ} → rule .qubits ≡ 1 → written ≡ with-stage (side-level side target) acted-on
-      → written ≡ prepared rule side control target l
-  unfolding prepared
-  prepared-one one written-is = rw (eq-eqb _ _ one) (written-is ∙ ap (with-stage (side-level side target)) action)
+in-power : (q i : ℕ) → in-mask (2 ^ q) i ≡ is q i
+in-power q i = ap (λ (m : ℕ). in-mask m i) (omega arith) ∙ in-mask-add 0 q i (in-no-mask q) ∙ ap (λ (b : Bool). b || is q i) (in-no-mask i)
 
-  pub prepared-ascending : {written : List ℕ} → (rule .qubits ≡ 1 → ⊥) → side-level side control < side-level side target
-      → written ≡ with-stages (side-level side control) (side-level side target) 1 acted-on → written ≡ prepared rule side control target l
-  unfolding prepared
-  prepared-ascending two less written-is =
-      rw (ne-eqb _ _ two, lt-ltb _ _ less) (written-is ∙ ap (with-stages (side-level side control) (side-level side target) 1) action)
+apart-name : (p q : ℕ) → (p ≡ q → ⊥) → is p q ≡ false
+apart-name p q apart = by-name (is p q) refl
+  where
+    by-name : (b : Bool) → is p q ≡ b → b ≡ false
+    by-name true e = absurd (apart (is-sound p q e))
+    by-name false e = refl
 
-  pub prepared-descending : {written : List ℕ} → (rule .qubits ≡ 1 → ⊥) → side-level side target ≤ side-level side control
-      → written ≡ with-stages (side-level side target) (side-level side control) 0 acted-on → written ≡ prepared rule side control target l
-  unfolding prepared
-  prepared-descending two more written-is =
-      rw (ne-eqb _ _ two, le-ltb _ _ more) (written-is ∙ ap (with-stages (side-level side target) (side-level side control) 0) action)
+pub mask-names : (n : ℕ) (g : Gate) → Fits n g → (i : ℕ) → in-mask (named-mask g) i ≡ names g i
+mask-names n (on k q) fits i = in-power q i
+mask-names n (pair k p q) fits i =
+    in-mask-add (2 ^ p) q i (in-power p q ∙ apart-name p q (fits .2)) ∙ ap (λ (b : Bool). b || is q i) (in-power p i)
+mask-names n (toffoli mask q) fits i = in-mask-add mask q i (fits .2)
+mask-names n (fredkin mask p q) fits i =
+    in-mask-add (mask + 2 ^ p) q i (in-mask-add mask p q (fits .1 .1) ∙ ap₂ _||_ (fits .2 .1) (apart-name p q (fits .3)))
+    ∙ ap (λ (b : Bool). b || is q i) (in-mask-add mask p i (fits .1 .1)) ∙ or-assoc (in-mask mask i) (is p i) (is q i)
+  where
+    or-assoc : (a b c : Bool) → (a || b || c) ≡ (a || (b || c))
+    or-assoc true b c = refl
+    or-assoc false b c = refl
 
 -- ---- slots after writes
 
@@ -77,18 +89,28 @@ read-written (w ∷ ws) l j below =
         ∙ getD-set-same (written ws l) (w .0) (w .1) 0 (omega arith)
     by-slot false e inside before = getD-set-other (written ws l) (w .0) j (w .1) 0 (λ same. eqb-false _ _ e (sym same)) ∙ before
 
--- slots past those that are written stay
-read-past : (ws : List (ℕ × ℕ)) (limit j old : ℕ) → all-below limit ws ≡ true → limit ≤ j → read ws j old ≡ old
-read-past [] limit j old below past = refl
-read-past (w ∷ ws) limit j old below past =
-    let tests = both-true (ltb (w .0) limit) (all-below limit ws) below in
-    let lower : w .0 < limit = ltb-true _ _ (tests .0) in
-    rw (ne-eqb (w .0) j (omega arith)) (read-past ws limit j old (tests .1) past)
+-- ---- slots after a row of writes
 
--- the writes of a gate's action
-abbrev action-writes : ℕ → Rule → List (ℕ × ℕ)
-action-writes side rule =
-    let p = side-phases side rule in (22, p .one) ∷ (21, p .zero) ∷ (20, as-number (rule .mixes)) ∷ (19, as-number (rule .flips)) ∷ []
+module _ {A : Type 0} (d : A) where
+  sets-out : (vs l : List A) (i k : ℕ) → (k < i) ⊎ (i + length vs ≤ k) → getD (sets l i vs) k d ≡ getD l k d
+  sets-out [] l i k out = refl
+  sets-out (v ∷ vs) l i k (inl before) = sets-out vs (set l i v) (suc i) k (inl (omega arith)) ∙ getD-set-other l i k v d (λ e. omega (arith, e))
+  sets-out (v ∷ vs) l i k (inr after) = sets-out vs (set l i v) (suc i) k (inr (omega arith)) ∙ getD-set-other l i k v d (λ e. omega (arith, e))
+
+  sets-in : (vs l : List A) (i k : ℕ) → k < length vs → i + length vs ≤ length l → getD (sets l i vs) (i + k) d ≡ getD vs k d
+  sets-in [] l i k h room = absurd (omega arith)
+  sets-in (v ∷ vs) l i zero h room =
+      sets-out vs (set l i v) (suc i) (i + 0) (inl (omega arith))
+      ∙ ap (λ (j : ℕ). getD (set l i v) j d) (add-none i) ∙ getD-set-same l i v d (omega arith)
+    where
+      add-none : (i : ℕ) → i + 0 ≡ i
+      add-none i = omega arith
+  sets-in (v ∷ vs) l i (suc k) h room =
+      ap (λ (j : ℕ). getD (sets (set l i v) (suc i) vs) j d) (shift i k)
+      ∙ sets-in vs (set l i v) (suc i) k (omega arith) (let long = length-set l i v in omega (arith, long))
+    where
+      shift : (i k : ℕ) → i + suc k ≡ suc i + k
+      shift i k = omega arith
 
 -- a plan's slots from 23 on are those of another
 pub record Keeps (l l′ : List ℕ) : Type 0 where
@@ -96,34 +118,35 @@ pub record Keeps (l l′ : List ℕ) : Type 0 where
   pub past : (j : ℕ) → 23 ≤ j → getD l′ j 0 ≡ getD l j 0
 
 -- the writes of a gate's plan keep them
-module _ (rule : Rule) (side control target : ℕ) (l : List ℕ) (size : length l ≡ 32) where
-  keeps : (ws : List (ℕ × ℕ)) → all-below 23 ws ≡ true → all-below 32 ws ≡ true → Keeps l (written ws l)
-  keeps ws below within = record {
-    long = length-written ws l;
-    past = λ j past. read-written ws l j (ap (λ (m : ℕ). all-below m ws) size ∙ within) ∙ read-past ws 23 j (getD l j 0) below past;
-  }
+module _ (rule : Rule) (side named low high : ℕ) (l : List ℕ) (size : length l ≡ 32) (small : named < 2 ^ 16) where
+  abbrev laid-stages : List ℕ
+  laid-stages = levels-from 16 side named
 
-  abbrev acted-on : List ℕ
-  acted-on = with-action (rule .flips) (rule .mixes) (side-phases side rule) l
+  abbrev laid-action : List ℕ
+  laid-action = with-action rule (side-phases side rule) l
 
-  keeps-stage : (t : ℕ) → Keeps l (with-stage t acted-on)
-  keeps-stage t = keeps ((18, 0) ∷ (17, 1) ∷ (1, getD acted-on 28 0) ∷ (0, t) ∷ action-writes side rule) refl refl
+  abbrev first-writes : List (ℕ × ℕ)
+  first-writes = let p = side-phases side rule in (22, p .one) ∷ (21, p .zero) ∷ (20, action-number rule) ∷ (19, as-number (rule .flips)) ∷ []
 
-  keeps-stages : (a b t : ℕ) → Keeps l (with-stages a b t acted-on)
-  keeps-stages a b t = keeps ((18, t) ∷ (17, 2) ∷ (2, getD acted-on 28 0) ∷ (1, b) ∷ (0, a) ∷ action-writes side rule) refl refl
+  abbrev last-writes : List (ℕ × ℕ)
+  last-writes = (16, ones (named % 2 ^ high)) ∷ (18, ones (named % 2 ^ low)) ∷ (17, ones named) ∷ []
 
-  keeps-staged : (one less : Bool) (c t : ℕ)
-      → Keeps l (cond one (with-stage t acted-on) (cond less (with-stages c t 1 acted-on) (with-stages t c 0 acted-on)))
-  keeps-staged true less c t = keeps-stage t
-  keeps-staged false true c t = keeps-stages c t 1
-  keeps-staged false false c t = keeps-stages t c 0
+  keeps-length : length (sets laid-action 0 laid-stages) ≡ length l
+  keeps-length = length-sets laid-action 0 laid-stages ∙ length-written first-writes l
 
-  pub prepared-keeps : Keeps l (prepared rule side control target l)
+  pub prepared-keeps : Keeps l (prepared rule side named low high l)
   unfolding prepared
-  prepared-keeps =
-      let c = side-level side control in
-      let t = side-level side target in
-      keeps-staged (eqb (rule .qubits) 1) (ltb c t) c t
+  prepared-keeps = record {
+    long = length-written last-writes (sets laid-action 0 laid-stages) ∙ keeps-length;
+    past = λ j h. read-written last-writes (sets laid-action 0 laid-stages) j (ap (λ (m : ℕ). all-below m last-writes) (keeps-length ∙ size))
+        ∙ rw (ne-eqb 16 j (λ e. omega (arith, e)), ne-eqb 18 j (λ e. omega (arith, e)), ne-eqb 17 j (λ e. omega (arith, e)))
+        (sets-out 0 laid-stages laid-action 0 j (inr (beyond j h))
+        ∙ (read-written first-writes l j (ap (λ (m : ℕ). all-below m first-writes) size)
+        ∙ rw (ne-eqb 22 j (λ e. omega (arith, e)), ne-eqb 21 j (λ e. omega (arith, e)), ne-eqb 20 j (λ e. omega (arith, e)), ne-eqb 19 j (λ e. omega (arith, e)))));
+  }
+    where
+      beyond : (j : ℕ) → 23 ≤ j → 0 + length laid-stages ≤ j
+      beyond j h = omega (arith, length-levels 16 side named small, ones-le 16 named small)
 
 -- ---- the plan is for the gate
 
@@ -131,109 +154,196 @@ from-number : (b : Bool) → eqb (as-number b) 1 ≡ b
 from-number true = refl
 from-number false = refl
 
-one-qubit : (k : Kind) → kind-rule k .qubits ≡ 1
-one-qubit X = refl
-one-qubit Y = refl
-one-qubit Z = refl
-one-qubit H = refl
-one-qubit S = refl
-one-qubit S† = refl
-one-qubit T = refl
-one-qubit T† = refl
+-- a rule that mixes swaps nothing
+abbrev Apart : Rule → Type 0
+Apart rule = (eqb (action-number rule) 1 ≡ rule .mixes) × (eqb (action-number rule) 2 ≡ rule .swaps)
 
-two-qubits : (k : Pair) → pair-rule k .qubits ≡ 1 → ⊥
-two-qubits CNOT e = omega arith
-two-qubits CZ e = omega arith
+kind-apart : (k : Kind) → Apart (kind-rule k)
+kind-apart X = (refl, refl)
+kind-apart Y = (refl, refl)
+kind-apart Z = (refl, refl)
+kind-apart H = (refl, refl)
+kind-apart S = (refl, refl)
+kind-apart S† = (refl, refl)
+kind-apart T = (refl, refl)
+kind-apart T† = (refl, refl)
 
-module _ (n : ℕ) (right : Bool) (l : List ℕ) (size : length l ≡ 32) (levels-in : getD l 28 0 ≡ levels n) where
-  -- the slot after writes that are within 32 slots
-  reads : (ws : List (ℕ × ℕ)) (j : ℕ) → all-below 32 ws ≡ true → getD (written ws l) j 0 ≡ read ws j (getD l j 0)
-  reads ws j below = read-written ws l j (ap (λ (m : ℕ). all-below m ws) size ∙ below)
+gate-apart : (g : Gate) → Apart (gate-rule g)
+gate-apart (on k q) = kind-apart k
+gate-apart (pair CNOT p q) = (refl, refl)
+gate-apart (pair CZ p q) = (refl, refl)
+gate-apart (toffoli mask q) = (refl, refl)
+gate-apart (fredkin mask p q) = (refl, refl)
 
-  -- the stages' writes leave the action's slots and the number of levels
-  abbrev Leaves-action : Rule → List (ℕ × ℕ) → Type 0
-  Leaves-action rule ws =
-      let all = ws ++ action-writes (as-number right) rule in
-      (old : ℕ) → (read all 28 old ≡ old) × (read all 19 old ≡ as-number (rule .flips)) × (read all 20 old ≡ as-number (rule .mixes))
-      × (read all 21 old ≡ side-phases (as-number right) rule .zero) × (read all 22 old ≡ side-phases (as-number right) rule .one)
+-- a gate names its targets, and no qubit past the count
+named-targets : (g : Gate) → (names g (target g) ≡ true) × (names g (second g) ≡ true)
+named-targets (on k q) = (is-refl q, is-refl q)
+named-targets (pair k p q) = (or-right (is p q) (is-refl q), or-right (is p q) (is-refl q))
+  where
+    or-right : (a : Bool) {b : Bool} → b ≡ true → (a || b) ≡ true
+    or-right true e = refl
+    or-right false e = e
+named-targets (toffoli mask q) = (or-right (in-mask mask q) (is-refl q), or-right (in-mask mask q) (is-refl q))
+  where
+    or-right : (a : Bool) {b : Bool} → b ≡ true → (a || b) ≡ true
+    or-right true e = refl
+    or-right false e = e
+named-targets (fredkin mask p q) = by-order (decLt p q)
+  where
+    or-right : (a : Bool) {b : Bool} → b ≡ true → (a || b) ≡ true
+    or-right true e = refl
+    or-right false e = e
 
-  plan-for : (g : Gate) (ws : List (ℕ × ℕ)) → all-below 32 (ws ++ action-writes (as-number right) (gate-rule g)) ≡ true → Leaves-action (gate-rule g) ws
-      → Stages (as-number right) (plan-of (written (ws ++ action-writes (as-number right) (gate-rule g)) l)) g
-      → PlanFor n right g (plan-of (written (ws ++ action-writes (as-number right) (gate-rule g)) l))
-  plan-for g ws below leaves stages =
-      let rule = gate-rule g in
-      let all = ws ++ action-writes (as-number right) rule in
-      record {
-        levels-are = reads all 28 below ∙ leaves (getD l 28 0) .0 ∙ levels-in;
-        flips-are = ap (λ (v : ℕ). eqb v 1) (reads all 19 below ∙ leaves (getD l 19 0) .1) ∙ from-number (rule .flips);
-        mixes-are = ap (λ (v : ℕ). eqb v 1) (reads all 20 below ∙ leaves (getD l 20 0) .2) ∙ from-number (rule .mixes);
-        phases-are = λ i. record {
-          zero = (reads all 21 below ∙ leaves (getD l 21 0) .3) i;
-          one = (reads all 22 below ∙ leaves (getD l 22 0) .4) i;
-        };
-        stages-are = stages;
-      }
+    or-left : {a : Bool} (b : Bool) → a ≡ true → (a || b) ≡ true
+    or-left b e = ap (λ (x : Bool). x || b) e
 
-  -- the number of levels as it stands after the action's writes
-  abbrev end : Rule → ℕ
-  end rule = getD (written (action-writes (as-number right) rule) l) 28 0
+    first : names (fredkin mask p q) p ≡ true
+    first = or-right (in-mask mask p) (or-left (is q p) (is-refl p))
 
-  plan-on : (k : Kind) (q c : ℕ) → PlanFor n right (on k q) (plan-of (prepared (kind-rule k) (as-number right) c q l))
+    other : names (fredkin mask p q) q ≡ true
+    other = or-right (in-mask mask q) (or-right (is p q) (is-refl q))
+
+    by-order : Dec (p < q) → (names (fredkin mask p q) (min p q) ≡ true) × (names (fredkin mask p q) (max p q) ≡ true)
+    by-order (yes less) = (
+      subst (λ (i : ℕ). names (fredkin mask p q) i ≡ true) (omega arith) first,
+      subst (λ (i : ℕ). names (fredkin mask p q) i ≡ true) (omega arith) other,
+    )
+    by-order (no more) = (
+      subst (λ (i : ℕ). names (fredkin mask p q) i ≡ true) (omega arith) other,
+      subst (λ (i : ℕ). names (fredkin mask p q) i ≡ true) (omega arith) first,
+    )
+
+pub names-fit : (n : ℕ) (g : Gate) → Fits n g → (i : ℕ) → names g i ≡ true → i < n
+names-fit n (on k q) fits i e = subst (λ (j : ℕ). j < n) (is-sound q i e) fits
+names-fit n (pair k p q) fits i e = by-name (is p i) refl (is q i) refl
+  where
+    by-name : (a : Bool) → is p i ≡ a → (b : Bool) → is q i ≡ b → i < n
+    by-name true f b g = subst (λ (j : ℕ). j < n) (is-sound p i f) (fits .0)
+    by-name false f true g = subst (λ (j : ℕ). j < n) (is-sound q i g) (fits .1)
+    by-name false f false g = absurd (true≢false (sym e ∙ ap₂ _||_ f g))
+names-fit n (toffoli mask q) fits i e = by-name (in-mask mask i) refl (is q i) refl
+  where
+    by-name : (a : Bool) → in-mask mask i ≡ a → (b : Bool) → is q i ≡ b → i < n
+    by-name true f b g = mask-below n mask i (fits .0 .0) f
+    by-name false f true g = subst (λ (j : ℕ). j < n) (is-sound q i g) (fits .1)
+    by-name false f false g = absurd (true≢false (sym e ∙ ap₂ _||_ f g))
+names-fit n (fredkin mask p q) fits i e = by-name (in-mask mask i) refl (is p i) refl (is q i) refl
+  where
+    by-name : (a : Bool) → in-mask mask i ≡ a → (b : Bool) → is p i ≡ b → (c : Bool) → is q i ≡ c → i < n
+    by-name true f b g c h = mask-below n mask i (fits .0 .0) f
+    by-name false f true g c h = subst (λ (j : ℕ). j < n) (is-sound p i g) (fits .1 .0)
+    by-name false f false g true h = subst (λ (j : ℕ). j < n) (is-sound q i h) (fits .2 .0)
+    by-name false f false g false h = absurd (true≢false (sym e ∙ ap₂ _||_ f (ap₂ _||_ g h)))
+
+module _ (n : ℕ) (right : Bool) (l : List ℕ) (size : length l ≡ 32) (levels-in : getD l 28 0 ≡ levels n) (g : Gate) (fits : Fits n g)
+    (mask-small : named-mask g < 2 ^ 16) where
+  abbrev side : ℕ
+  side = as-number right
+
+  abbrev rule : Rule
+  rule = gate-rule g
+
+  abbrev mask : ℕ
+  mask = named-mask g
+
+  abbrev stages : List ℕ
+  stages = levels-from 16 side mask
+
+  abbrev acted-on : List ℕ
+  acted-on = with-action rule (side-phases side rule) l
+
+  abbrev slots : List ℕ
+  slots = prepared rule side mask (target g) (second g) l
+
+  as-many : length stages ≡ ones mask
+  as-many = length-levels 16 side mask mask-small
+
+  at-most : length stages ≤ 16
+  at-most = let most = ones-le 16 mask mask-small in omega (arith, as-many)
+
+  abbrev action-writes : List (ℕ × ℕ)
+  action-writes =
+      let p = side-phases side rule in (22, p .one) ∷ (21, p .zero) ∷ (20, action-number rule) ∷ (19, as-number (rule .flips)) ∷ []
+
+  abbrev stage-writes : List (ℕ × ℕ)
+  stage-writes = (16, ones (mask % 2 ^ second g)) ∷ (18, ones (mask % 2 ^ target g)) ∷ (17, ones mask) ∷ []
+
+  long : length acted-on ≡ 32
+  long = length-written action-writes l ∙ size
+
+  long-stages : length (sets acted-on 0 stages) ≡ 32
+  long-stages = length-sets acted-on 0 stages ∙ long
+
+  -- a slot of the plan, by the writes of the targets and of the action
+  slot : (k : ℕ) → getD slots k 0 ≡ read stage-writes k (getD (sets acted-on 0 stages) k 0)
   unfolding prepared
-  plan-on k q c =
-      let ws : List (ℕ × ℕ) = (18, 0) ∷ (17, 1) ∷ (1, end (kind-rule k)) ∷ (0, side-level (as-number right) q) ∷ [] in
-      let all = ws ++ action-writes (as-number right) (kind-rule k) in
-      rw (eq-eqb _ _ (one-qubit k))
-      (plan-for (on k q) ws refl (λ old. (refl, refl, refl, refl, refl)) (reads all 17 refl, reads all 18 refl, reads all 0 refl))
+  slot k = read-written stage-writes (sets acted-on 0 stages) k (ap (λ (m : ℕ). all-below m stage-writes) long-stages)
 
-  module _ (k : Pair) (p q : ℕ) where
-    abbrev pair-writes : ℕ → ℕ → ℕ → List (ℕ × ℕ)
-    pair-writes a b τ = (18, τ) ∷ (17, 2) ∷ (2, end (pair-rule k)) ∷ (1, b) ∷ (0, a) ∷ []
+  stage-slot : (k : ℕ) → k < length stages → getD slots k 0 ≡ getD stages k 0
+  stage-slot k h =
+      slot k
+      ∙ rw (ne-eqb 16 k (λ e. omega (arith, at-most, e)), ne-eqb 18 k (λ e. omega (arith, at-most, e)), ne-eqb 17 k (λ e. omega (arith, at-most, e)))
+      (ap (λ (j : ℕ). getD (sets acted-on 0 stages) j 0) (sym (zero-add k)) ∙ sets-in 0 stages acted-on 0 k h (omega (arith, at-most, long)))
 
-    abbrev pair-slots : ℕ → ℕ → ℕ → List ℕ
-    pair-slots a b τ = written (pair-writes a b τ ++ action-writes (as-number right) (pair-rule k)) l
+  action-slot : (k : ℕ) → 18 < k → getD slots k 0 ≡ read action-writes k (getD l k 0)
+  action-slot k h =
+      slot k
+      ∙ rw (ne-eqb 16 k (λ e. omega (arith, e)), ne-eqb 18 k (λ e. omega (arith, e)), ne-eqb 17 k (λ e. omega (arith, e)))
+      (sets-out 0 stages acted-on 0 k (inr (omega (arith, at-most)))
+      ∙ read-written action-writes l k (ap (λ (m : ℕ). all-below m action-writes) size))
 
-    slot-of : (a b τ j : ℕ) → getD (pair-slots a b τ) j 0 ≡ read (pair-writes a b τ ++ action-writes (as-number right) (pair-rule k)) j (getD l j 0)
-    slot-of a b τ j = reads (pair-writes a b τ ++ action-writes (as-number right) (pair-rule k)) j refl
+  stages-slot : getD slots 17 0 ≡ ones mask
+  stages-slot = slot 17
 
-    plan-stages : (a b τ : ℕ) → τ < 2 → a < b → getD (pair-slots a b τ) τ 0 ≡ side-level (as-number right) q
-        → getD (pair-slots a b τ) (1 - τ) 0 ≡ side-level (as-number right) p → PlanFor n right (pair k p q) (plan-of (pair-slots a b τ))
-    plan-stages a b τ small less at-target at-control =
-        let target-is : getD (pair-slots a b τ) 18 0 ≡ τ = slot-of a b τ 18 in
-        plan-for (pair k p q) (pair-writes a b τ) refl (λ old. (refl, refl, refl, refl, refl)) (
-          slot-of a b τ 17,
-          omega (arith, target-is),
-          omega (arith, slot-of a b τ 0, slot-of a b τ 1),
-          ap (λ (j : ℕ). getD (pair-slots a b τ) j 0) target-is ∙ at-target,
-          ap (λ (j : ℕ). getD (pair-slots a b τ) (1 - j) 0) target-is ∙ at-control,
-        )
+  target-slot : getD slots 18 0 ≡ ones (mask % 2 ^ target g)
+  target-slot = slot 18
 
-    plan-pair : Fits n (pair k p q) → PlanFor n right (pair k p q) (plan-of (prepared (pair-rule k) (as-number right) p q l))
-    unfolding prepared
-    plan-pair fits = rw (ne-eqb _ _ (two-qubits k)) (by-order (decLt (level p) (level q)))
-      where
-        level : ℕ → ℕ
-        level = side-level (as-number right)
+  second-slot : getD slots 16 0 ≡ ones (mask % 2 ^ second g)
+  second-slot = slot 16
 
-        after : (side : ℕ) → (2 * p + side < 2 * q + side → ⊥) → 2 * q + side < 2 * p + side
-        after side not-less = by-less (decLt q p)
-          where
-            by-less : Dec (q < p) → 2 * q + side < 2 * p + side
-            by-less (yes less) = omega arith
-            by-less (no other) = absurd (fits .2 (omega arith))
+  -- the stage of a named qubit
+  stage-of : (q : ℕ) → names g q ≡ true
+      → (ones (mask % 2 ^ q) < plan-of slots .stages) × (plan-of slots .stage (ones (mask % 2 ^ q)) ≡ side-level side q)
+  stage-of q e =
+      let at = levels-at 16 side mask q mask-small (mask-names n g fits q ∙ e) in
+      (omega (arith, at .0, as-many, stages-slot), stage-slot _ (at .0) ∙ (at .1 ∙ turn side q))
+    where
+      turn : (side q : ℕ) → side + 2 * q ≡ 2 * q + side
+      turn side q = omega arith
 
-        by-order : Dec (level p < level q) → PlanFor n right (pair k p q) (plan-of (cond (ltb (level p) (level q))
-            (pair-slots (level p) (level q) 1) (pair-slots (level q) (level p) 0)))
-        by-order (yes less) =
-            let slot = slot-of (level p) (level q) 1 in
-            rw (lt-ltb _ _ less) (plan-stages (level p) (level q) 1 (omega arith) less (slot 1) (slot 0))
-        by-order (no other) =
-            let more : level q < level p = after (as-number right) other in
-            let slot = slot-of (level q) (level p) 0 in
-            rw (le-ltb (level p) (level q) (omega arith)) (plan-stages (level q) (level p) 0 (omega arith) more (slot 0) (slot 1))
+  staged : Staged-as side (names g) (plan-of slots)
+  staged = record {
+    few = omega (arith, stages-slot, as-many, at-most);
+    ascend = λ j k less below. ascending j k less below;
+    each-named = λ k below. named k below;
+    named-each = λ q e. (ones (mask % 2 ^ q), stage-of q e .0, stage-of q e .1);
+  }
+    where
+      within : (k : ℕ) → k < plan-of slots .stages → k < length stages
+      within k below = omega (arith, stages-slot, as-many)
 
-  -- the plan that `prepare` writes is one for the gate
-  pub prepared-plan : (g : Gate) (c : ℕ) → Fits n g → Controls g c → PlanFor n right g (plan-of (prepared (gate-rule g) (as-number right) c (target g) l))
-  prepared-plan (on k q) c fits named = plan-on k q c
-  prepared-plan (pair k p q) c fits named =
-      subst (λ (j : ℕ). PlanFor n right (pair k p q) (plan-of (prepared (pair-rule k) (as-number right) j q l))) (sym named) (plan-pair k p q fits)
+      ascending : (j k : ℕ) → j < k → k < plan-of slots .stages → plan-of slots .stage j < plan-of slots .stage k
+      ascending j k less below =
+          let up = levels-ascend 16 side mask j k less (within k below) in
+          omega (arith, up, stage-slot j (omega (arith, within k below)), stage-slot k (within k below))
+
+      named : (k : ℕ) → k < plan-of slots .stages → (q : ℕ) × (names g q ≡ true) × (plan-of slots .stage k ≡ side-level side q)
+      named k below =
+          let found = levels-named 16 side mask k (within k below) in
+          let at = found .2 in
+          let here = stage-slot k (within k below) in
+          (found .0, sym (mask-names n g fits (found .0)) ∙ found .1, omega (arith, at, here))
+
+  pub prepared-plan : PlanFor n right g (plan-of slots)
+  prepared-plan = record {
+    levels-are = action-slot 28 (omega arith) ∙ levels-in;
+    flips-are = ap (λ (v : ℕ). eqb v 1) (action-slot 19 (omega arith)) ∙ from-number (rule .flips);
+    mixes-are = ap (λ (v : ℕ). eqb v 1) (action-slot 20 (omega arith)) ∙ gate-apart g .0;
+    swaps-are = ap (λ (v : ℕ). eqb v 2) (action-slot 20 (omega arith)) ∙ gate-apart g .1;
+    phases-are = λ i. record { zero = action-slot 21 (omega arith) i; one = action-slot 22 (omega arith) i };
+    staged = staged;
+    target-in = subst (λ (k : ℕ). k < plan-of slots .stages) (sym target-slot) (stage-of (target g) (named-targets g .0) .0);
+    target-at = ap (plan-of slots .stage) target-slot ∙ stage-of (target g) (named-targets g .0) .1;
+    second-in = subst (λ (k : ℕ). k < plan-of slots .stages) (sym second-slot) (stage-of (second g) (named-targets g .1) .0);
+    second-at = ap (plan-of slots .stage) second-slot ∙ stage-of (second g) (named-targets g .1) .1;
+  }

@@ -5,10 +5,10 @@ use mathlib.Core.List.{List}
 use Prim.Native.Nat.{ℕ, _+_, _*_, _<_, _≤_, max}
 use lib.ListN.{length, set}
 use Rattle.gates.specs.Gate.{Gate, Fits}
-use Rattle.gates.specs.Rule.{gate-rule, target}
+use Rattle.gates.specs.Rule.{gate-rule, target, second}
 use Rattle.stores.specs.Columns.{zeroed}
 use Rattle.transitions.specs.Plan.{plan-of}
-use Rattle.plans.specs.Prepare.{as-number, prepared, Controls}
+use Rattle.plans.specs.Prepare.{as-number, named-mask, prepared}
 use Rattle.tables.specs.Table.{TableFits, table-end, table-size, cleared}
 use Rattle.plans.specs.declared.Action.{Action}
 use Rattle.plans.specs.declared.Sizes.{Sizes}
@@ -21,9 +21,11 @@ pub record Acts (n : ℕ) (right : Bool) (g : Gate) (action : Action) : Type 0 w
   pub fits : Fits n g
   pub rule : action .rule ≡ gate-rule g
   pub side : action .side ≡ as-number right
-  pub control : Controls g (action .control)
-  pub small-control : action .control < 65536
-  pub target : action .target ≡ target g
+  pub named : action .named ≡ named-mask g
+  pub small-named : action .named < 65536
+  pub low : action .low ≡ target g
+  pub high : action .high ≡ second g
+  pub small-high : action .high < 16
 
 -- ---- the plan
 
@@ -42,7 +44,8 @@ laid-out mixes zero levels sizes used l =
 
 unfoldable pub planned : Action → ℕ → Sizes → Used → ℕ → List ℕ → List ℕ
 planned action n sizes used zero l =
-    prepared (action .rule) (action .side) (action .control) (action .target) (laid-out (action .rule .mixes) zero (2 * n) sizes used l)
+    prepared (action .rule) (action .side) (action .named) (action .low) (action .high)
+    (laid-out (action .rule .mixes) zero (2 * n) sizes used l)
 
 -- what planning asks, so that its numbers fit
 pub record Planning (action : Action) (n : ℕ) (used : Used) : Type 0 where
@@ -50,8 +53,9 @@ pub record Planning (action : Action) (n : ℕ) (used : Used) : Type 0 where
   pub few-nodes : used .nodes ≤ 65536
   pub few-values : used .values ≤ 65536
   pub a-side : action .side < 2
-  pub small-control : action .control < 65536
-  pub small-target : action .target < 65536
+  pub small-named : action .named < 65536
+  pub small-low : action .low < 16
+  pub small-high : action .high < 16
 
 -- ---- the tables
 

@@ -1,12 +1,13 @@
 // The plan of a step and its tables, before its walk: what the gate does and at which levels, the sizes of the tables, the tables cleared.
 use gates::Phases;
 use gates::Rule;
+use transitions::ACTION;
 use transitions::FLIPS;
 use transitions::LEVELS;
-use transitions::MIXES;
 use transitions::NODE_HEADS;
 use transitions::PHASE_ONE;
 use transitions::PHASE_ZERO;
+use transitions::SECOND;
 use transitions::SLOTS;
 use transitions::SPAN;
 use transitions::STAGES;
@@ -15,9 +16,11 @@ use transitions::VALUE_HEADS;
 use transitions::WIDTH;
 use transitions::ZERO;
 ghost use mathlib.Core.Path.{_≡_};
-ghost use Prim.Native.Nat.{_<_, _≤_, max};
+ghost use Prim.Native.Nat.{_<_, _≤_, _%_, _^_, max};
+ghost use lib.Count.{ones};
+ghost use lib.Seq.{sets};
 ghost use Rattle.stores.specs.Columns.{entries-of, zero-ref, ValueColumns};
-ghost use Rattle.plans.specs.Prepare.{as-number, side-phases, with-action, with-stage, with-stages, prepared};
+ghost use Rattle.plans.specs.Prepare.{as-number, side-phases, action-number, levels-from, with-action, with-stages, prepared};
 ghost use Rattle.plans.specs.Layout.{paired, laid-out, planned, Planning, Roomy, Cleared};
 
 // The slots of the plan that hold the counts of the source's nodes and values.
@@ -32,12 +35,14 @@ const LEAST_VALUE_HEADS: u32 = 16;
 
 const LEAST_SLOTS: u32 = 256;
 
-// A gate put on the left (side 0) or on the right (side 1), by its data, its control and its target.
+// A gate put on the left (side 0) or on the right (side 1), by its data, the mask of the qubits that it names, and its targets, the lower
+// one first; a gate with one target has it twice.
 pub struct Action {
     pub rule: Rule,
     pub side: u32,
-    pub control: u32,
-    pub target: u32,
+    pub named: u32,
+    pub low: u32,
+    pub high: u32,
 }
 
 // The width, and the most heads of a unique table and slots of the computed table that the scratch has room for.
@@ -74,56 +79,72 @@ fn phases_of(rule: Rule, side: u32) -> Phases
     rule.left
 }
 
-fn write_action(flips: bool, mixes: bool, phases: Phases, plan: &mut [u32; 32])
-    ensures { λ _. ⌜ now (plan .exit) ≡ with-action flips mixes phases (now (plan .entry)) ⌝ }
+// 0 if the gate moves an entry, 1 if it mixes two, 2 if it swaps its targets.
+fn action_number(rule: Rule) -> u32
+    ensures { λ r. ⌜ r ≡ action-number rule ⌝ }
 {
-    plan[FLIPS] = number_of(flips);
-    plan[MIXES] = number_of(mixes);
+    if rule.mixes {
+        return 1;
+    }
+    if rule.swaps {
+        return 2;
+    }
+    0
+}
+
+fn write_action(rule: Rule, phases: Phases, plan: &mut [u32; 32])
+    ensures { λ _. ⌜ now (plan .exit) ≡ with-action rule phases (now (plan .entry)) ⌝ }
+{
+    plan[FLIPS] = number_of(rule.flips);
+    plan[ACTION] = action_number(rule);
     plan[PHASE_ZERO] = phases.zero;
     plan[PHASE_ONE] = phases.one;
 }
 
-// One stage, at level t; past the last stage the number of levels.
-fn write_stage(t: u32, plan: &mut [u32; 32])
-    ensures { λ _. ⌜ now (plan .exit) ≡ with-stage t (now (plan .entry)) ⌝ }
+// The levels of the qubits that a mask names, lowest first.
+fn write_levels(named: u32, side: u32, plan: &mut [u32; 32])
+    requires { ⌜ (named < 65536) × (side < 2) ⌝ }
+    ensures { λ _. ⌜ now (plan .exit) ≡ sets (now (plan .entry)) 0 (levels-from 16 side named) ⌝ }
 {
-    let end = plan[LEVELS];
-    plan[0] = t;
-    plan[1] = end;
-    plan[STAGES] = 1;
-    plan[TARGET] = 0;
+    let mut rest = named;
+    let mut level = side;
+    let mut k = 0;
+    while 0 < rest {
+        if rest % 2 == 1 {
+            plan[k] = level;
+            k += 1;
+        }
+        rest = rest / 2;
+        level += 2;
+    }
 }
 
-// Two stages, at levels a and b, and which of them is the target's.
-fn write_stages(a: u32, b: u32, target: u32, plan: &mut [u32; 32])
-    ensures { λ _. ⌜ now (plan .exit) ≡ with-stages a b target (now (plan .entry)) ⌝ }
+// How many qubits below q a mask names.
+fn named_below(named: u32, q: u32) -> u32
+    requires { ⌜ q < 16 ⌝ }
+    ensures { λ r. ⌜ r ≡ ones (named % 2 ^ q) ⌝ }
 {
-    let end = plan[LEVELS];
-    plan[0] = a;
-    plan[1] = b;
-    plan[2] = end;
-    plan[STAGES] = 2;
-    plan[TARGET] = target;
+    u32::count_ones(named % (1 << q))
 }
 
-// The plan of a gate on the left (side 0) or on the right (side 1), by its data, its control and its target; the other slots
-// stay, and the number of levels is read.
-fn prepare(rule: Rule, side: u32, control: u32, target: u32, plan: &mut [u32; 32])
-    requires { ⌜ (side < 2) × (control < 65536) × (target < 65536) ⌝ }
-    ensures { λ _. ⌜ now (plan .exit) ≡ prepared rule side control target (now (plan .entry)) ⌝ }
+// The stages, and which of them are the targets'.
+fn write_stages(named: u32, side: u32, low: u32, high: u32, plan: &mut [u32; 32])
+    requires { ⌜ (named < 65536) × (side < 2) × (low < 16) × (high < 16) ⌝ }
+    ensures { λ _. ⌜ now (plan .exit) ≡ with-stages side named low high (now (plan .entry)) ⌝ }
 {
-    write_action(rule.flips, rule.mixes, phases_of(rule, side), plan);
-    let c = 2 * control + side;
-    let t = 2 * target + side;
-    if rule.qubits == 1 {
-        write_stage(t, plan);
-        return;
-    }
-    if c < t {
-        write_stages(c, t, 1, plan);
-        return;
-    }
-    write_stages(t, c, 0, plan);
+    write_levels(named, side, plan);
+    plan[STAGES] = u32::count_ones(named);
+    plan[TARGET] = named_below(named, low);
+    plan[SECOND] = named_below(named, high);
+}
+
+// The plan of a gate on the left (side 0) or on the right (side 1); the other slots stay.
+fn prepare(rule: Rule, side: u32, named: u32, low: u32, high: u32, plan: &mut [u32; 32])
+    requires { ⌜ (named < 65536) × (side < 2) × (low < 16) × (high < 16) ⌝ }
+    ensures { λ _. ⌜ now (plan .exit) ≡ prepared rule side named low high (now (plan .entry)) ⌝ }
+{
+    write_action(rule, phases_of(rule, side), plan);
+    write_stages(named, side, low, high, plan);
 }
 
 // ---- the plan of a step
@@ -185,7 +206,14 @@ pub fn plan_step(
     let zero = stores::zero_of(a, b, c, d, used.values);
     let rule = action.rule;
     lay_out(rule.mixes, zero, 2 * n, sizes, used, plan);
-    prepare(rule, action.side, action.control, action.target, plan);
+    prepare(
+        rule,
+        action.side,
+        action.named,
+        action.low,
+        action.high,
+        plan,
+    );
 }
 
 // Empty tables, as large as the plan says, for so many nodes and values.

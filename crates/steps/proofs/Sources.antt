@@ -13,8 +13,8 @@ use borrow.Author.Tests.{lt-ltb, le-ltb, leb-true}
 use Rattle.algebra.specs.declared.Entry.{Entry}
 use Rattle.algebra.specs.Entry.{𝟘}
 use Rattle.algebra.specs.Matrix.{Matrix}
-use Rattle.gates.specs.Gate.{Gate, on, pair, Fits}
-use Rattle.gates.specs.Rule.{target}
+use Rattle.gates.specs.Gate.{Gate}
+use Rattle.gates.proofs.LocalRules.{target-fits}
 use Rattle.diagrams.specs.Diagram.{code, Store, holding, diagram, slot, same-entry}
 use Rattle.stores.specs.Columns.{Columns, columns, entries-of, zero-ref, Published, ValueColumns, zeroed}
 use Rattle.uniques.specs.UniqueTable.{node-in, nodes-in, entry-in, values-in, ValuesHeld}
@@ -69,10 +69,6 @@ side-small : (right : Bool) → as-number right < 2
 side-small true = omega arith
 side-small false = omega arith
 
-target-fits : (n : ℕ) (g : Gate) → Fits n g → target g < n
-target-fits n (on k q) fits = fits
-target-fits n (pair k p q) fits = fits .1
-
 -- ---- what a task says
 
 module _ {action : Action} {n : ℕ} {sizes : Sizes} {used : Used} {source destination : Columns}
@@ -108,14 +104,15 @@ module _ {action : Action} {n : ℕ} {sizes : Sizes} {used : Used} {source desti
   pub planning : Planning action n used
   planning =
       let side = task .acts .side in
-      let target-is = task .acts .target in
+      let low-is = task .acts .low in
       record {
         few-qubits = task .few-qubits;
         few-nodes = root-fits .0;
         few-values = omega (arith, few-values, task .scratch .few-values);
         a-side = omega (arith, side, side-small (task .right));
-        small-control = task .acts .small-control;
-        small-target = omega (arith, target-is, target-fits n (task .gate) (task .acts .fits), task .few-qubits);
+        small-named = task .acts .small-named;
+        small-low = omega (arith, low-is, target-fits n (task .gate) (task .acts .fits), task .few-qubits);
+        small-high = task .acts .small-high;
       }
 
   pub source-values : ValueColumns (source .a) (source .b) (source .c) (source .d) (used .values)
@@ -136,7 +133,7 @@ module _ {action : Action} {n : ℕ} {sizes : Sizes} {used : Used} {source desti
     long = length-replicate {A = ℕ} 32 0
 
     slots : Slots plan (action .rule .mixes) zero-here (2 * n) sizes used
-    slots = rw is (slots-planned action n sizes used zero-here (replicate 32 0) long)
+    slots = rw is (slots-planned action n sizes used zero-here (replicate 32 0) long (task .acts .small-named))
 
     for-gate : PlanFor n (task .right) (task .gate) (plan-of plan)
     for-gate = rw is (planned-for action n sizes used zero-here (replicate 32 0) long (task .acts))

@@ -84,7 +84,7 @@ pub record InTable (plan : Plan) (σ : State) : Type 0 where
   pub second : σ .y < plan .span
   pub mode-limit : σ .mode < 256
   pub turning : σ .mode < 8 → σ .y ≡ σ .x
-  pub waiting : 16 ≤ σ .mode → σ .mode < 64 → σ .y ≡ σ .x
+  pub waiting : 16 ≤ σ .mode → σ .mode < 32 → σ .y ≡ σ .x
 
 -- what a look at the table asks: the state's own slot, in a table that fits
 pub record AtSlot (plan : Plan) (memo : List ℕ) (at : ℕ) (σ : State) : Type 0 where

@@ -1,8 +1,8 @@
 -- What the pieces of a transition come to at each return of the code.
 -- Assumes nothing.
 use mathlib.Core.Path.{_≡_, refl, sym, _∙_, ap, ap₂}
-use mathlib.Core.Bool.{Bool, true, false, cond, not}
-use Prim.Native.Nat.{ℕ, suc, _+_, _-_, _<_, _≤_, min}
+use mathlib.Core.Bool.{Bool, true, false, cond, not, Bool·beq}
+use Prim.Native.Nat.{ℕ, suc, _+_, _-_, _*_, _<_, _≤_, min}
 use native.Mathlib.Numerals.{add-one}
 use native.Mathlib.Omega.{arith}
 use lib.Dec.{eqb}
@@ -11,8 +11,9 @@ use Rattle.algebra.specs.declared.Entry.{Entry}
 use Rattle.gates.specs.declared.Phases.{Phases}
 use Rattle.gates.specs.Rule.{phase, flipped}
 use Rattle.diagrams.specs.Diagram.{Store, ref-of}
+use Rattle.transitions.specs.declared.State.{State}
 use Rattle.transitions.specs.Plan.{Plan, plan-rule}
-use Rattle.transitions.specs.State.{level-of, Mode, turning, waiting, choosing, mode-of, top-by, top}
+use Rattle.transitions.specs.State.{level-of, Mode, turning, waiting, swapping, choosing, mode-of, top-by, top}
 use Rattle.transitions.specs.Next.{mode-code, numbered, on-both, cofactor, paired, chosen, at-target, next-by, next-state}
 use Rattle.transitions.proofs.Codes.{mode-pair}
 use Rattle.transitions.proofs.Slots.{bit-cases}
@@ -31,6 +32,14 @@ bit-clear bit clear = ap (λ (b : ℕ). eqb b 1) clear
 pub bit-set : (bit : ℕ) → bit < 2 → (bit ≡ 0 → ⊥) → eqb bit 1 ≡ true
 bit-set bit a-bit set = eq-eqb bit 1 (omega arith)
 
+-- the flipped bit of a bit
+pub flipped-bit : (bit : ℕ) → bit < 2 → (1 - bit < 2) × (eqb (1 - bit) 1 ≡ not (eqb bit 1))
+flipped-bit = bit-cases (λ (b : ℕ). (1 - b < 2) × (eqb (1 - b) 1 ≡ not (eqb b 1))) (omega arith, refl) (omega arith, refl)
+
+-- a bit as a number
+pub bit-number : (bit : ℕ) → bit < 2 → bit ≡ cond (eqb bit 1) 1 0
+bit-number = bit-cases (λ (b : ℕ). b ≡ cond (eqb b 1) 1 0) refl refl
+
 -- ---- the target's question
 
 module _ (plan : Plan) (s : Store Entry) (level k x : ℕ) where
@@ -42,17 +51,22 @@ module _ (plan : Plan) (s : Store Entry) (level k x : ℕ) where
       ∙ ap₂ (paired plan (cond (eqb bit 1) 9 8)) low-is high-is
       ∙ cond-true (plan .mixes) _ _ mixes
 
-  pub at-target-moves : (b : Bool) (from e own other : ℕ) → plan .mixes ≡ false → eqb from 1 ≡ flipped (plan-rule plan) b → e ≡ phase (plan .phases) b
+  -- the number of a swap's mode, by the bit of its first target
+  pub at-target-swaps : (bit own other : ℕ) → bit < 2 → plan .mixes ≡ false → plan .swaps ≡ true → own ≡ cofactor s level (eqb bit 1) x
+      → other ≡ cofactor s level (eqb (1 - bit) 1) x → numbered own other (32 + 2 * k + bit) ≡ at-target plan s level (eqb bit 1) k x
+  unfolding at-target
+  at-target-swaps bit own other a-bit moves swaps own-is other-is =
+      ap₂ (λ (o w : ℕ). numbered o w (32 + 2 * k + bit)) own-is (other-is ∙ ap (λ (b : Bool). cofactor s level b x) (flipped-bit bit a-bit .1))
+      ∙ ap (λ (m : ℕ). numbered (cofactor s level (eqb bit 1) x) (cofactor s level (not (eqb bit 1)) x) (32 + 2 * k + m)) (bit-number bit a-bit)
+      ∙ cond-true (plan .swaps) _ _ swaps ∙ cond-false (plan .mixes) _ _ moves
+
+  pub at-target-moves : (b : Bool) (from e own other : ℕ) → plan .mixes ≡ false → plan .swaps ≡ false → eqb from 1 ≡ flipped (plan-rule plan) b → e ≡ phase (plan .phases) b
       → own ≡ cofactor s level b x → other ≡ cofactor s level (eqb from 1) x → chosen plan k e own other ≡ at-target plan s level b k x
   unfolding at-target
-  at-target-moves b from e own other moves from-is e-is own-is other-is =
+  at-target-moves b from e own other moves keeps from-is e-is own-is other-is =
       ap (λ (power : ℕ). chosen plan k power own other) e-is
       ∙ ap₂ (chosen plan k (phase (plan .phases) b)) own-is (other-is ∙ ap (λ (taken : Bool). cofactor s level taken x) from-is)
-      ∙ cond-false (plan .mixes) _ _ moves
-
--- the flipped bit of a bit
-pub flipped-bit : (bit : ℕ) → bit < 2 → (1 - bit < 2) × (eqb (1 - bit) 1 ≡ not (eqb bit 1))
-flipped-bit = bit-cases (λ (b : ℕ). (1 - b < 2) × (eqb (1 - b) 1 ≡ not (eqb b 1))) (omega arith, refl) (omega arith, refl)
+      ∙ cond-false (plan .swaps) _ _ keeps ∙ cond-false (plan .mixes) _ _ moves
 
 pub phase-below : (p : Phases) (b : Bool) {e : ℕ} → e ≡ phase p b → p .zero < 8 → p .one < 8 → e < 8
 phase-below p true e-is zero-below one-below = omega arith
@@ -96,6 +110,53 @@ module _ (plan : Plan) (s : Store Entry) (level k e x y : ℕ) (b : Bool) (own o
 
   pub choosing-passed : (plan .stage k ≡ level → ⊥) → chosen plan k e own other ≡ next-by plan s level b (choosing k e) x y
   choosing-passed elsewhere = rw (ne-eqb _ _ elsewhere) (ap₂ (chosen plan k e) own-is other-is)
+
+-- past a swap's first target
+module _ (plan : Plan) (s : Store Entry) (level k x y bit seen : ℕ) (a-bit : bit < 2) (a-seen : seen < 2) (own : ℕ)
+    (own-is : own ≡ cofactor s level (eqb bit 1) x) where
+  abbrev after-swap : State
+  after-swap = next-by plan s level (eqb bit 1) (swapping k (eqb seen 1)) x y
+
+  beq-same : (b : Bool) → Bool·beq b b ≡ true
+  beq-same true = refl
+  beq-same false = refl
+
+  beq-apart : (bit ≡ seen → ⊥) → Bool·beq (eqb bit 1) (eqb seen 1) ≡ false
+  beq-apart other =
+      bit-cases (λ (b : ℕ). (b ≡ seen → ⊥) → Bool·beq (eqb b 1) (eqb seen 1) ≡ false)
+      (bit-cases (λ (c : ℕ). (0 ≡ c → ⊥) → Bool·beq false (eqb c 1) ≡ false) (λ o. absurd (o refl)) (λ o. refl) seen a-seen)
+      (bit-cases (λ (c : ℕ). (1 ≡ c → ⊥) → Bool·beq true (eqb c 1) ≡ false) (λ o. refl) (λ o. absurd (o refl)) seen a-seen) bit a-bit other
+
+  pub swapping-alike : plan .stage k ≡ level → plan .second ≡ k → bit ≡ seen → numbered own own 0 ≡ after-swap
+  swapping-alike here second alike =
+      rw (eq-eqb _ _ here, eq-eqb _ _ second)
+      (ap (λ (o : ℕ). numbered o o 0) own-is ∙ cond-true (Bool·beq (eqb bit 1) (eqb seen 1)) _ _
+      (ap (λ (m : ℕ). Bool·beq (eqb bit 1) (eqb m 1)) (sym alike) ∙ beq-same (eqb bit 1)))
+
+  pub swapping-second : (other : ℕ) → plan .stage k ≡ level → plan .second ≡ k → (bit ≡ seen → ⊥) → other ≡ cofactor s level (eqb seen 1) y
+      → chosen plan (k + 1) 0 own other ≡ after-swap
+  swapping-second other here second apart other-is =
+      rw (eq-eqb _ _ here, eq-eqb _ _ second, add-one)
+      (ap₂ (chosen plan (suc k) 0) own-is other-is ∙ cond-false (Bool·beq (eqb bit 1) (eqb seen 1)) _ _ (beq-apart apart))
+
+  pub swapping-clear : plan .stage k ≡ level → (plan .second ≡ k → ⊥) → bit ≡ 0 → numbered own own 0 ≡ after-swap
+  swapping-clear here control clear =
+      rw (eq-eqb _ _ here, ne-eqb _ _ control) (ap (λ (o : ℕ). numbered o o 0) own-is ∙ cond-false (eqb bit 1) _ _ (bit-clear bit clear))
+
+  module _ (other : ℕ) (other-is : other ≡ cofactor s level (eqb bit 1) y) where
+    pub swapping-set : plan .stage k ≡ level → (plan .second ≡ k → ⊥) → (bit ≡ 0 → ⊥) → numbered own other (34 + 2 * k + seen) ≡ after-swap
+    swapping-set here control set =
+        let on : 34 + 2 * k + seen ≡ 32 + 2 * suc k + seen = omega arith in
+        rw (eq-eqb _ _ here, ne-eqb _ _ control)
+        (ap₂ (λ (o w : ℕ). numbered o w (34 + 2 * k + seen)) own-is other-is
+        ∙ ap (numbered (cofactor s level (eqb bit 1) x) (cofactor s level (eqb bit 1) y)) (on ∙ ap (λ (m : ℕ). 32 + 2 * suc k + m) (bit-number seen a-seen))
+        ∙ cond-true (eqb bit 1) _ _ (bit-set bit a-bit set))
+
+    pub swapping-passed : (plan .stage k ≡ level → ⊥) → numbered own other (32 + 2 * k + seen) ≡ after-swap
+    swapping-passed elsewhere =
+        rw (ne-eqb _ _ elsewhere)
+        (ap₂ (λ (o w : ℕ). numbered o w (32 + 2 * k + seen)) own-is other-is
+        ∙ ap (λ (m : ℕ). numbered (cofactor s level (eqb bit 1) x) (cofactor s level (eqb bit 1) y) (32 + 2 * k + m)) (bit-number seen a-seen))
 
 -- ---- two references
 

@@ -1,5 +1,5 @@
 -- What a bit turns a state into, and the entry of a state that asks no more. Definitions only.
-use mathlib.Core.Bool.{Bool, true, false, cond, _&&_}
+use mathlib.Core.Bool.{Bool, true, false, not, cond, _&&_, Bool·beq}
 use mathlib.Core.List.{[]}
 use Prim.Native.Nat.{ℕ, suc, _+_, _*_}
 use lib.Dec.{eqb}
@@ -9,7 +9,7 @@ use Rattle.gates.specs.Rule.{phase, flipped}
 use Rattle.diagrams.specs.Diagram.{Ref, value, node, code, Store, node-at, reached, ref-of}
 use Rattle.transitions.specs.declared.State.{State}
 use Rattle.transitions.specs.Plan.{Plan, plan-rule}
-use Rattle.transitions.specs.State.{Mode, turning, adding, subtracting, waiting, choosing, mode-of}
+use Rattle.transitions.specs.State.{Mode, turning, adding, subtracting, waiting, swapping, choosing, mode-of}
 
 -- ---- states by their numbers
 
@@ -18,6 +18,7 @@ mode-code (turning e) = e
 mode-code adding = 8
 mode-code subtracting = 9
 mode-code (waiting k) = 16 + k
+mode-code (swapping k b) = 32 + 2 * k + cond b 1 0
 mode-code (choosing k e) = 64 + 8 * k + e
 
 abbrev pub numbered : ℕ → ℕ → ℕ → State
@@ -58,7 +59,9 @@ unfoldable pub at-target : Plan → Store Entry → ℕ → Bool → ℕ → ℕ
 at-target plan s level b k x = cond
     (plan .mixes)
     (paired plan (cond b 9 8) (cofactor s level false x) (cofactor s level true x))
-    (chosen plan k (phase (plan .phases) b) (cofactor s level b x) (cofactor s level (flipped (plan-rule plan) b) x))
+    (cond (plan .swaps)
+    (on-both (swapping k b) (cofactor s level b x) (cofactor s level (not b) x))
+    (chosen plan k (phase (plan .phases) b) (cofactor s level b x) (cofactor s level (flipped (plan-rule plan) b) x)))
 
 abbrev pub next-by : Plan → Store Entry → ℕ → Bool → Mode → ℕ → ℕ → State
 next-by plan s level b (turning e) x y = on-one (turning e) (cofactor s level b x)
@@ -68,6 +71,12 @@ next-by plan s level b (waiting k) x y = cond
     (eqb (plan .stage k) level)
     (cond (eqb (plan .target) k) (at-target plan s level b (suc k) x) (on-one (cond b (waiting (suc k)) (turning 0)) (cofactor s level b x)))
     (on-one (waiting k) (cofactor s level b x))
+next-by plan s level b (swapping k seen) x y = cond
+    (eqb (plan .stage k) level)
+    (cond (eqb (plan .second) k)
+    (cond (Bool·beq b seen) (on-one (turning 0) (cofactor s level b x)) (chosen plan (suc k) 0 (cofactor s level b x) (cofactor s level seen y)))
+    (cond b (on-both (swapping (suc k) seen) (cofactor s level b x) (cofactor s level b y)) (on-one (turning 0) (cofactor s level b x))))
+    (on-both (swapping k seen) (cofactor s level b x) (cofactor s level b y))
 next-by plan s level b (choosing k e) x y = cond
     (eqb (plan .stage k) level)
     (cond b (chosen plan (suc k) e (cofactor s level b x) (cofactor s level b y)) (on-one (turning 0) (cofactor s level b x)))
@@ -88,6 +97,7 @@ is-leaf-by (turning e) x y = is-value x
 is-leaf-by adding x y = is-value x && is-value y
 is-leaf-by subtracting x y = is-value x && is-value y
 is-leaf-by (waiting k) x y = false
+is-leaf-by (swapping k b) x y = false
 is-leaf-by (choosing k e) x y = false
 
 unfoldable pub is-leaf : State → Bool
@@ -102,6 +112,7 @@ leaf-by s (turning e) x y = turned e (entry-of s x)
 leaf-by s adding x y = entry-of s x ⊕ entry-of s y
 leaf-by s subtracting x y = entry-of s x ⊖ entry-of s y
 leaf-by s (waiting k) x y = 𝟘
+leaf-by s (swapping k b) x y = 𝟘
 leaf-by s (choosing k e) x y = 𝟘
 
 unfoldable pub leaf-entry : Store Entry → State → Entry

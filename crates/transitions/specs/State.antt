@@ -1,12 +1,14 @@
 -- The states of a step's walk: what each stands for, where it asks next, and the diagram that it makes. Definitions only.
-use mathlib.Core.Bool.{Bool, cond}
+use mathlib.Core.Bool.{Bool, cond, Bool·beq}
 use Prim.Native.Nat.{ℕ, _+_, _-_, _/_, _%_, min}
 use lib.Dec.{eqb, ltb}
+use lib.ListN.{set}
 use Rattle.algebra.specs.declared.Entry.{Entry}
 use Rattle.algebra.specs.Entry.{𝟘, _⊕_, _⊖_, turned}
 use Rattle.algebra.specs.Matrix.{Bits, everywhere}
 use Rattle.algebra.specs.Width.{entryInWidth}
-use Rattle.gates.specs.Rule.{all-set, acted}
+use Rattle.gates.specs.Gate.{bit, all-set}
+use Rattle.gates.specs.Rule.{acted}
 use Rattle.diagrams.specs.Diagram.{Ref, value, node, ref-of, Store, Diagram, node-at, reached, same-entry, reduce}
 use Rattle.transitions.specs.declared.State.{State}
 use Rattle.transitions.specs.Plan.{Plan, plan-rule, control}
@@ -14,17 +16,22 @@ use Rattle.transitions.specs.Plan.{Plan, plan-rule, control}
 -- ---- a state's numbers
 
 -- what is made of the references: x times w8 to the power e; x + y; x − y; the gate still to act on x, from stage k on;
--- y times w8 to the power e if every control from stage k on is 1, else x
+-- past a swap's first target, whose bit was b: if every control from stage k on is 1 and the second target's bit is not b, what y gives
+-- with b in its place, else x; y times w8 to the power e if every control from stage k on is 1, else x
 pub data Mode : Type 0 where
   turning : ℕ → Mode
   adding subtracting : Mode
   waiting : ℕ → Mode
+  swapping : ℕ → Bool → Mode
   choosing : ℕ → ℕ → Mode
 
 unfoldable pub mode-of : ℕ → Mode
 mode-of m =
     cond (ltb m 8) (turning m)
-    (cond (eqb m 8) adding (cond (ltb m 16) subtracting (cond (ltb m 64) (waiting (m - 16)) (choosing ((m - 64) / 8) ((m - 64) % 8)))))
+    (cond (eqb m 8) adding
+    (cond (ltb m 16) subtracting
+    (cond (ltb m 32) (waiting (m - 16))
+    (cond (ltb m 64) (swapping ((m - 32) / 2) (eqb ((m - 32) % 2) 1)) (choosing ((m - 64) / 8) ((m - 64) % 8))))))
 
 -- ---- what a state stands for
 
@@ -34,7 +41,12 @@ meant-by plan s level (turning e) x y l = turned e (reached 𝟘 s level x l)
 meant-by plan s level adding x y l = reached 𝟘 s level x l ⊕ reached 𝟘 s level y l
 meant-by plan s level subtracting x y l = reached 𝟘 s level x l ⊖ reached 𝟘 s level y l
 meant-by plan s level (waiting k) x y l =
-    acted (plan-rule plan) (plan .phases) (λ i. control plan (level + i)) (plan .stage (plan .target) - level) (reached 𝟘 s level x) l
+    acted (plan-rule plan) (plan .phases) (λ i. control plan (level + i)) (plan .stage (plan .target) - level) (plan .stage (plan .second) - level)
+    (reached 𝟘 s level x) l
+meant-by plan s level (swapping k b) x y l =
+    let q = plan .stage (plan .second) - level in
+    cond (all-set (λ i. control plan (level + i)) l)
+    (cond (Bool·beq (bit l q) b) (reached 𝟘 s level x l) (reached 𝟘 s level y (set l q b))) (reached 𝟘 s level x l)
 meant-by plan s level (choosing k e) x y l =
     cond (all-set (λ i. control plan (level + i)) l) (turned e (reached 𝟘 s level y l)) (reached 𝟘 s level x l)
 
@@ -53,6 +65,7 @@ top-by plan s (turning e) x y = level-of plan s x
 top-by plan s adding x y = min (level-of plan s x) (level-of plan s y)
 top-by plan s subtracting x y = min (level-of plan s x) (level-of plan s y)
 top-by plan s (waiting k) x y = min (level-of plan s x) (plan .stage k)
+top-by plan s (swapping k b) x y = min (min (level-of plan s x) (level-of plan s y)) (plan .stage k)
 top-by plan s (choosing k e) x y = min (min (level-of plan s x) (level-of plan s y)) (plan .stage k)
 
 unfoldable pub top : Plan → Store Entry → State → ℕ

@@ -6,21 +6,23 @@ ghost use lib.Dec.{eqb};
 ghost use Rattle.gates.specs.Rule.{phase, flipped};
 ghost use Rattle.diagrams.specs.Diagram.{ref-of};
 ghost use Rattle.transitions.specs.Plan.{plan-of, plan-rule};
-ghost use Rattle.transitions.specs.State.{level-of, top, waiting, choosing};
+ghost use Rattle.transitions.specs.State.{level-of, top, waiting, swapping, choosing};
 ghost use Rattle.transitions.specs.Source.{Readable, Reading, Reading-both};
 ghost use Rattle.transitions.specs.Next.{numbered, cofactor, paired, chosen, at-target, next-by, next-state};
 ghost use Rattle.transitions.specs.Valid.{Usable, Targeting};
 
-// The step's plan, as numbers: the levels at which the gate asks, lowest first (its controls and its target), and then
-// how many there are, which of them is the target's, what the gate does there, the source's zero, the sizes of the tables,
-// the width and the number of levels.
+// The step's plan, as numbers: the levels at which the gate asks, lowest first (its controls and its targets, sixteen at most), and
+// then which of them is the second target's, how many there are, which is the target's, what the gate does there (0 moves an entry, 1
+// mixes two, 2 swaps the targets), the source's zero, the sizes of the tables, the width and the number of levels.
+pub const SECOND: usize = 16;
+
 pub const STAGES: usize = 17;
 
 pub const TARGET: usize = 18;
 
 pub const FLIPS: usize = 19;
 
-pub const MIXES: usize = 20;
+pub const ACTION: usize = 20;
 
 pub const PHASE_ZERO: usize = 21;
 
@@ -80,13 +82,14 @@ pub fn asked(src: &[&[u32]; 3], plan: &[u32; 32], x: u32, y: u32, mode: u32) -> 
     if mode < 16 {
         return least(a, level_at(src, plan, y));
     }
-    if mode < 64 {
+    if mode < 32 {
         return least(a, plan[(mode - 16) as usize]);
     }
-    least(
-        least(a, level_at(src, plan, y)),
-        plan[((mode - 64) / 8) as usize],
-    )
+    let both = least(a, level_at(src, plan, y));
+    if mode < 64 {
+        return least(both, plan[((mode - 32) / 2) as usize]);
+    }
+    least(both, plan[((mode - 64) / 8) as usize])
 }
 
 // ---- what a bit turns a state into
@@ -123,7 +126,7 @@ fn paired(plan: &[u32; 32], x: u32, y: u32, mode: u32) -> State
 
 // y times w8 to the power e if every control from stage k on is 1, else x.
 fn chosen(plan: &[u32; 32], k: u32, e: u32, x: u32, y: u32) -> State
-    requires { ⌜ (k < 18) × (e < 8) ⌝ }
+    requires { ⌜ (k < 17) × (e < 8) ⌝ }
     ensures { λ r. ⌜ r ≡ chosen (plan-of (now (plan .entry))) k e x y ⌝ }
 {
     if k == plan[STAGES] {
@@ -166,19 +169,27 @@ fn at_target(src: &[&[u32]; 3], plan: &[u32; 32], lv: u32, bit: u32, k: u32, x: 
     requires { ⌜ Targeting (plan-of (now plan)) (map now (now src)) bit k x ⌝ }
     ensures { λ r. ⌜ Reading (map now (now (src .entry))) x (λ s. r ≡ at-target (plan-of (now (plan .entry))) s lv (eqb bit 1) k x) ⌝ }
 {
-    if plan[MIXES] == 1 {
+    if plan[ACTION] == 1 {
         let low = cofactor(src, lv, 0, x);
         let high = cofactor(src, lv, 1, x);
         return paired(plan, low, high, 8 + bit);
     }
     let own = cofactor(src, lv, bit, x);
+    if plan[ACTION] == 2 {
+        let other = cofactor(src, lv, 1 - bit, x);
+        return State {
+            x: own,
+            y: other,
+            mode: 32 + 2 * k + bit,
+        };
+    }
     let other = cofactor(src, lv, taken_from(plan, bit), x);
     chosen(plan, k, phase_at(plan, bit), own, other)
 }
 
 // A gate that is still to act, from stage k on: its question, or one that it passes by.
 fn next_waiting(src: &[&[u32]; 3], plan: &[u32; 32], lv: u32, bit: u32, k: u32, x: u32) -> State
-    requires { ⌜ (k < 17) × Targeting (plan-of (now plan)) (map now (now src)) bit (k + 1) x ⌝ }
+    requires { ⌜ (k < 16) × Targeting (plan-of (now plan)) (map now (now src)) bit (k + 1) x ⌝ }
     ensures { λ r. ⌜ Reading (map now (now (src .entry))) x (λ s. r ≡ next-by (plan-of (now (plan .entry))) s lv (eqb bit 1) (waiting k) x x) ⌝ }
 {
     if plan[k as usize] == lv {
@@ -207,6 +218,56 @@ fn next_waiting(src: &[&[u32]; 3], plan: &[u32; 32], lv: u32, bit: u32, k: u32, 
     }
 }
 
+// Past a swap's first target, whose bit was `seen`: the second target's question, a control's, or one that it passes by.
+fn next_swapping(
+    src: &[&[u32]; 3],
+    plan: &[u32; 32],
+    lv: u32,
+    bit: u32,
+    k: u32,
+    seen: u32,
+    x: u32,
+    y: u32,
+) -> State
+    requires { ⌜ (k < 16) × (seen < 2) × (bit < 2) × Readable (map now (now src)) x × Readable (map now (now src)) y ⌝ }
+    ensures { λ r. ⌜ Reading-both (map now (now (src .entry))) x y
+        (λ s. r ≡ next-by (plan-of (now (plan .entry))) s lv (eqb bit 1) (swapping k (eqb seen 1)) x y) ⌝ }
+{
+    let own = cofactor(src, lv, bit, x);
+    if plan[k as usize] == lv {
+        if plan[SECOND] == k {
+            if bit == seen {
+                return State {
+                    x: own,
+                    y: own,
+                    mode: 0,
+                };
+            }
+            let other = cofactor(src, lv, seen, y);
+            return chosen(plan, k + 1, 0, own, other);
+        }
+        if bit == 0 {
+            return State {
+                x: own,
+                y: own,
+                mode: 0,
+            };
+        }
+        let other = cofactor(src, lv, bit, y);
+        return State {
+            x: own,
+            y: other,
+            mode: 34 + 2 * k + seen,
+        };
+    }
+    let other = cofactor(src, lv, bit, y);
+    State {
+        x: own,
+        y: other,
+        mode: 32 + 2 * k + seen,
+    }
+}
+
 // A gate that has acted on y, with the controls from stage k on still to come.
 fn next_choosing(
     src: &[&[u32]; 3],
@@ -218,7 +279,7 @@ fn next_choosing(
     x: u32,
     y: u32,
 ) -> State
-    requires { ⌜ (k < 17) × (e < 8) × (bit < 2) × Readable (map now (now src)) x × Readable (map now (now src)) y ⌝ }
+    requires { ⌜ (k < 16) × (e < 8) × (bit < 2) × Readable (map now (now src)) x × Readable (map now (now src)) y ⌝ }
     ensures { λ r. ⌜ Reading-both (map now (now (src .entry))) x y
         (λ s. r ≡ next-by (plan-of (now (plan .entry))) s lv (eqb bit 1) (choosing k e) x y) ⌝ }
 {
@@ -264,8 +325,11 @@ pub fn next(
         let other = cofactor(src, lv, bit, y);
         return paired(plan, own, other, mode);
     }
-    if mode < 64 {
+    if mode < 32 {
         return next_waiting(src, plan, lv, bit, mode - 16, x);
+    }
+    if mode < 64 {
+        return next_swapping(src, plan, lv, bit, (mode - 32) / 2, (mode - 32) % 2, x, y);
     }
     next_choosing(src, plan, lv, bit, (mode - 64) / 8, (mode - 64) % 8, x, y)
 }

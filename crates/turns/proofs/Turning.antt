@@ -17,7 +17,7 @@ use Rattle.diagrams.proofs.References.{code-ref-of}
 use Rattle.transitions.specs.declared.State.{State}
 use Rattle.transitions.specs.Plan.{Plan, plan-of}
 use Rattle.transitions.specs.Source.{Refers}
-use Rattle.transitions.specs.State.{Mode, turning, adding, subtracting, waiting, choosing, mode-of, top, made, inside}
+use Rattle.transitions.specs.State.{Mode, turning, adding, subtracting, waiting, swapping, choosing, mode-of, top, made, inside}
 use Rattle.transitions.specs.Next.{mode-code, next-state, is-leaf, leaf-entry}
 use Rattle.transitions.specs.Valid.{ValidPlan, ValidState, Suits, Usable}
 use Rattle.transitions.proofs.Codes.{mode-turning, mode-waiting}
@@ -50,6 +50,8 @@ module _ (plan : Plan) (s : Store Entry) (valid : ValidPlan plan s) (node-span :
   small-mode level adding x y suits = omega arith
   small-mode level subtracting x y suits = omega arith
   small-mode level (waiting k) x y suits = omega (arith, suits .0, valid .has-target, valid .few-stages)
+  small-mode level (swapping k true) x y suits = omega (arith, suits .1, valid .has-second, valid .few-stages)
+  small-mode level (swapping k false) x y suits = omega (arith, suits .1, valid .has-second, valid .few-stages)
   small-mode level (choosing k e) x y suits = omega (arith, suits .1, suits .2, valid .few-stages)
 
   pub in-table : (σ : State) → ValidState plan s σ → InTable plan σ

@@ -4,7 +4,7 @@ use libc::STDIN_FILENO;
 use libc::STDOUT_FILENO;
 
 fn main() {
-    let mut input = [0; 32768];
+    let mut input = [0; 57344];
     let n = io::read_full(STDIN_FILENO, &mut input);
     let mut line = [0; reports::ROOM];
     let end = inputs::answer_line(&input[..n], &mut line);

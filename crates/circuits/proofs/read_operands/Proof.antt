@@ -1,46 +1,45 @@
--- `circuits::read_operands` meets its contract: the first qubit is the definition's, and so is whether a second follows.
--- Assumes nothing.
+-- `circuits::read_operands` meets its contract: by what follows the code. Assumes nothing.
 use borrow.Author.Needs.{needs}
-use borrow.Author.Tests.{eq-eqb, ne-eqb}
-use Rattle.circuits.specs.Reading.{qubit}
-use Rattle.circuits.proofs.Answers.{number-read, number-refused}
 use Rattle.circuits.proofs.read_operands.Statement.{statement}
 use Rattle.circuits.proofs.read_operands.Tie as tie
 
-read-qubit-requires : tie.Need-read-qubit-requires
-read-qubit-requires c κs = search needs
+enum-told : tie.Need-enum-told
+enum-told c = search needs
 
-enum-known-why : tie.Need-enum-known-why
-enum-known-why c = search needs
+read-single-requires : tie.Need-read-single-requires
+read-single-requires c κs = search needs
 
-enum-known-value : tie.Need-enum-known-value
-enum-known-value c = search needs
+enum-told-2 : tie.Need-enum-told-2
+enum-told-2 c = search needs
 
-read-target-requires : tie.Need-read-target-requires
-read-target-requires c κs = search needs
+read-controlled-requires : tie.Need-read-controlled-requires
+read-controlled-requires c κs = search needs
+
+enum-known-operands : tie.Need-enum-known-operands
+enum-known-operands c = search needs
+
+read-masked-requires : tie.Need-read-masked-requires
+read-masked-requires c κs = search needs
 
 returns : tie.Need-returns
-returns c = rw (number-refused (qubit _ _ _) (c .before .before .before .read-qubit .ensures) (c .before .why .given .1))
+returns c = rw (c .before .enum-told .given .1) (c .read-single .ensures)
 
 returns-2 : tie.Need-returns-2
-returns-2 c =
-    let v = c .before .before .before in
-    rw (number-read (qubit _ _ _) (v .before .before .read-qubit .ensures) (v .value .given .1), eq-eqb _ _ (c .before .if1 .taken))
-    (c .read-target .ensures)
+returns-2 c = rw (c .before .enum-told2 .given .1) (c .read-controlled .ensures)
 
 returns-3 : tie.Need-returns-3
-returns-3 c =
-    let v = c .before .before in
-    rw (number-read (qubit _ _ _) (v .before .before .read-qubit .ensures) (v .value .given .1), ne-eqb _ _ (c .if1 .left))
+returns-3 c = rw (c .before .before .operands .given .1) (c .read-masked .ensures)
 
 pub read-operands-spec : {M : Type 1} → statement M
 read-operands-spec =
     tie.close
     (tie.spec
-    read-qubit-requires
-    enum-known-why
-    enum-known-value
-    read-target-requires
+    enum-told
+    read-single-requires
+    enum-told-2
+    read-controlled-requires
+    enum-known-operands
+    read-masked-requires
     returns
     returns-2
     returns-3)

@@ -1,9 +1,8 @@
--- `circuits::read_target` meets its contract: the qubit that was read, and the test on it, are the definition's.
--- Assumes nothing.
-use borrow.Author.Needs.{needs}
+-- `circuits::read_target` meets its contract: what was read, and the test on it, are the definition's. Assumes nothing.
 use borrow.Author.Tests.{eq-eqb, ne-eqb}
-use Rattle.circuits.specs.Reading.{qubit, target-qubit}
 use Rattle.circuits.proofs.Answers.{number-read, number-refused}
+use Rattle.circuits.specs.Reading.{qubit, target-qubit}
+use borrow.Author.Needs.{needs}
 use Rattle.circuits.proofs.read_target.Statement.{statement}
 use Rattle.circuits.proofs.read_target.Tie as tie
 

@@ -17,7 +17,7 @@ use Rattle.gates.proofs.decide.Tie as tie
 known : {rule rule′ : Rule} {code n : ℕ} → rule ≡ rule′ → code ≡ n → decision n ≡ Known rule′ → Decided code (Known rule)
 known {code = code} made at entry = decided code (ap Known made ∙ sym entry ∙ ap decision (sym at))
 
-beyond : (code : ℕ) → 10 ≤ code → Decided code Unknown
+beyond : (code : ℕ) → 12 ≤ code → Decided code Unknown
 unfolding decision meant
 beyond code h = decided code (ap rule-of (sym (List·getD-eq-default codes unknown h)))
 
@@ -31,6 +31,9 @@ flipping-requires-2 c κs = search needs
 
 diagonal-requires : tie.Need-diagonal-requires
 diagonal-requires c κs = search needs
+
+unturned-requires : tie.Need-unturned-requires
+unturned-requires c κs = search needs
 
 diagonal-requires-2 : tie.Need-diagonal-requires-2
 diagonal-requires-2 c κs = search needs
@@ -50,6 +53,12 @@ flipping-requires-3 c κs = search needs
 diagonal-requires-6 : tie.Need-diagonal-requires-6
 diagonal-requires-6 c κs = search needs
 
+flipping-requires-4 : tie.Need-flipping-requires-4
+flipping-requires-4 c κs = search needs
+
+unturned-requires-2 : tie.Need-unturned-requires-2
+unturned-requires-2 c κs = search needs
+
 returns : tie.Need-returns
 unfolding decision meant
 returns c = known (c .flipping .ensures) (c .before .match .keys1) refl
@@ -64,7 +73,7 @@ returns-3 c = known (c .diagonal .ensures) (c .before .match .keys3) refl
 
 returns-4 : tie.Need-returns-4
 unfolding decision meant
-returns-4 c = known refl (c .match .keys4) refl
+returns-4 c = known (c .unturned .ensures) (c .before .match .keys4) refl
 
 returns-5 : tie.Need-returns-5
 unfolding decision meant
@@ -91,12 +100,22 @@ unfolding decision meant
 returns-10 c = known (c .diagonal6 .ensures) (c .before .match .keys10) refl
 
 returns-11 : tie.Need-returns-11
-returns-11 c =
-    let not-7 = c .match .rest .0 .0 in
+unfolding decision meant
+returns-11 c = known (c .flipping4 .ensures) (c .before .match .keys11) refl
+
+returns-12 : tie.Need-returns-12
+unfolding decision meant
+returns-12 c = known (c .unturned2 .ensures) (c .before .match .keys12) refl
+
+returns-13 : tie.Need-returns-13
+returns-13 c =
+    let not-9 = c .match .rest .0 .0 in
+    let not-7 = not-9 .0 .0 in
     let not-3 = not-7 .0 .0 .0 .0 in
     let above-3 = past (past (past (past zero-le (not-3 .0 .0 .0 .1)) (not-3 .0 .0 .1)) (not-3 .0 .1)) (not-3 .1) in
     let above-7 = past (past (past (past above-3 (not-7 .0 .0 .0 .1)) (not-7 .0 .0 .1)) (not-7 .0 .1)) (not-7 .1) in
-    beyond (c .before .args .code) (past (past above-7 (c .match .rest .0 .1)) (c .match .rest .1))
+    let above-9 = past (past above-7 (not-9 .0 .1)) (not-9 .1) in
+    beyond (c .before .args .code) (past (past above-9 (c .match .rest .0 .1)) (c .match .rest .1))
 
 pub decide-spec : {M : Type 1} → statement M
 decide-spec =
@@ -105,12 +124,15 @@ decide-spec =
     flipping-requires
     flipping-requires-2
     diagonal-requires
+    unturned-requires
     diagonal-requires-2
     diagonal-requires-3
     diagonal-requires-4
     diagonal-requires-5
     flipping-requires-3
     diagonal-requires-6
+    flipping-requires-4
+    unturned-requires-2
     returns
     returns-2
     returns-3
@@ -121,4 +143,6 @@ decide-spec =
     returns-8
     returns-9
     returns-10
-    returns-11)
+    returns-11
+    returns-12
+    returns-13)

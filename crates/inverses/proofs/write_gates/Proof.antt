@@ -23,7 +23,7 @@ abbrev μ-loop : tie.MeasureT-loop
 the-gate : (k : tie.After-code Inv-loop μ-loop)
     → Found (gate (k .before .before .before .before .before .before .before .args .qubits)
     (k .before .before .before .before .before .before .before .args .list .now) (k .before .before .before .before .loop .at))
-    (k .code .given .0 .0) (k .code .given .0 .1 .0) (k .code .given .0 .1 .1 .0) (k .code .given .0 .1 .1 .1 .0)
+    (k .code .given .0 .0) (k .code .given .0 .1 .0) (k .code .given .0 .1 .1 .0) (k .code .given .0 .1 .1 .1 .0) (k .code .given .0 .1 .1 .1 .1 .0)
 the-gate k = gate-read (gate _ _ _) (k .before .before .gate-at .ensures) (k .code .given .1)
 
 -- and what follows it

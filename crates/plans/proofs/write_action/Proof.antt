@@ -12,8 +12,8 @@ number-of-requires c κs = search needs
 element-write-plan : tie.Need-element-write-plan
 element-write-plan c = search needs
 
-number-of-requires-2 : tie.Need-number-of-requires-2
-number-of-requires-2 c κs = search needs
+action-number-requires : tie.Need-action-number-requires
+action-number-requires c κs = search needs
 
 element-write-plan-2 : tie.Need-element-write-plan-2
 element-write-plan-2 c = search needs
@@ -27,8 +27,8 @@ element-write-plan-4 c = search needs
 returns : tie.Need-returns
 returns c = let l = c .before .before .args .plan .now in
     let p = c .before .before .args .phases in
-    ap₂ (λ (flips mixes : ℕ). set (set (set (set l 19 flips) 20 mixes) 21 (p .zero)) 22 (p .one))
-    (c .before .number-of .ensures) (c .number-of2 .ensures)
+    ap₂ (λ (flips kind : ℕ). set (set (set (set l 19 flips) 20 kind) 21 (p .zero)) 22 (p .one))
+    (c .before .number-of .ensures) (c .action-number .ensures)
 
 pub write-action-spec : {M : Type 1} → statement M
 write-action-spec =
@@ -36,7 +36,7 @@ write-action-spec =
     (tie.spec
     number-of-requires
     element-write-plan
-    number-of-requires-2
+    action-number-requires
     element-write-plan-2
     element-write-plan-3
     element-write-plan-4

@@ -3,7 +3,7 @@ use mathlib.Core.Path.{_∙_, ap, ap₂}
 use Prim.Native.Nat.{ℕ}
 use native.Mathlib.Omega.{arith}
 use Rattle.transitions.specs.Next.{numbered, paired, next-state}
-use Rattle.transitions.proofs.Codes.{mode-turning, mode-waiting, mode-choosing, stage-waiting, stage-choosing}
+use Rattle.transitions.proofs.Codes.{mode-turning, mode-waiting, mode-swapping, mode-choosing, stage-waiting, stage-swapping, stage-choosing}
 use Rattle.transitions.proofs.Turns.{next-pair}
 use borrow.Author.Needs.{needs}
 use Rattle.transitions.proofs.next.Statement.{statement}
@@ -52,15 +52,25 @@ unfolding next-state
 returns-3 c = λ s held x-refers y-refers.
     rw (mode-waiting _ (c .before .before .if2 .left) (c .before .if3 .taken)) (c .next-waiting .ensures s held x-refers)
 
-next-choosing-requires : tie.Need-next-choosing-requires
-next-choosing-requires c κs = let start = c .before .before .before in
-    let few = stage-choosing _ (c .if3 .left) (start .pre .1 .staged) in
+next-swapping-requires : tie.Need-next-swapping-requires
+next-swapping-requires c κs = let start = c .before .before .before .before in
+    let few = stage-swapping _ (c .before .if3 .left) (c .if4 .taken) (start .pre .1 .staged) in
     (few, omega arith, start .pre .0, start .pre .1 .x-readable, start .pre .1 .y-readable)
 
 returns-4 : tie.Need-returns-4
 unfolding next-state
 returns-4 c = λ s held x-refers y-refers.
-    rw (mode-choosing _ (c .before .if3 .left)) (c .next-choosing .ensures s held x-refers y-refers)
+    rw (mode-swapping _ (c .before .before .if3 .left) (c .before .if4 .taken)) (c .next-swapping .ensures s held x-refers y-refers)
+
+next-choosing-requires : tie.Need-next-choosing-requires
+next-choosing-requires c κs = let start = c .before .before .before .before in
+    let few = stage-choosing _ (c .if4 .left) (start .pre .1 .staged) in
+    (few, omega arith, start .pre .0, start .pre .1 .x-readable, start .pre .1 .y-readable)
+
+returns-5 : tie.Need-returns-5
+unfolding next-state
+returns-5 c = λ s held x-refers y-refers.
+    rw (mode-choosing _ (c .before .if4 .left)) (c .next-choosing .ensures s held x-refers y-refers)
 
 pub next-spec : {M : Type 1} → statement M
 next-spec =
@@ -74,5 +84,7 @@ next-spec =
     returns-2
     next-waiting-requires
     returns-3
+    next-swapping-requires
+    returns-4
     next-choosing-requires
-    returns-4)
+    returns-5)
