@@ -21,7 +21,7 @@ module _ (u v schedule : List ℕ) (w : ℕ) (first second : Lengths) where
     pub width : fitWidth w ≡ true
     pub rules : both-rules first second ≡ true
 
-  -- nor 3 to 10
+  -- nor 3 to 10, nor 17
   pub record Both-read (c d : Circuit) : Type 0 where
     pub lent-well : Lent-well
     pub first-end : ℕ
@@ -35,7 +35,7 @@ module _ (u v schedule : List ℕ) (w : ℕ) (first second : Lengths) where
     bad-width : fitWidth w ≡ false → Checking (refuses (Call 1))
     -- 2, "column lengths break the store rules"
     bad-stores : fitWidth w ≡ true → both-rules first second ≡ false → Checking (refuses (Call 2))
-    -- 3 to 10 of list 1, then of list 2
+    -- 3 to 10 and 17 of list 1, then of list 2
     bad-first : {why : ListRefusal} → Lent-well → decoded base-limits u ≡ unread why → Checking (refuses (at-byte 1 why))
     bad-second : {c : Circuit} {next : ℕ} {why : ListRefusal} → Lent-well → decoded base-limits u ≡ read c next
         → decoded base-limits v ≡ unread why → Checking (refuses (at-byte 2 why))

@@ -8,7 +8,7 @@ use native.Mathlib.Omega.{arith}
 use Rattle.gates.specs.declared.Rule.{Rule}
 use Rattle.gates.specs.declared.Decision.{Decision}
 use Rattle.gates.specs.declared.Decision.the-variants.{Known, Unknown}
-use Rattle.gates.specs.Gate.{X, Y, Z, H, S, S†, T, T†, CNOT, CZ, Gate, on, pair, toffoli, fredkin, in-mask, Fits, inverse, halves}
+use Rattle.gates.specs.Gate.{X, Y, Z, H, S, S†, T, T†, CNOT, CZ, Gate, on, pair, toffoli, fredkin, Fits, inverse, halves}
 use Rattle.gates.specs.Rule.{decision, gate-rule, target, second}
 use Rattle.gates.proofs.LocalRules.{second-fits}
 use Rattle.gates.proofs.Masks.{names-below}
@@ -20,7 +20,6 @@ use Rattle.circuits.specs.Answers.{control, first-target, last-target, gate-ans
 use Rattle.circuits.proofs.Codes.{gate-decided, inverse-code}
 use Rattle.circuits.specs.Remaining.{Remaining}
 use Rattle.circuits.proofs.Remaining.{remaining-next}
-use Rattle.circuits.proofs.Within.{control-small}
 use Rattle.plans.specs.Prepare.{as-number}
 use Rattle.plans.specs.Prepare.{named-mask}
 use Rattle.plans.specs.declared.Action.{Action}
@@ -29,7 +28,7 @@ use Rattle.plans.specs.Layout.{Acts}
 use Rattle.choices.specs.declared.Offsets.{Offsets}
 use Rattle.choices.specs.declared.Taken.{Taken}
 use Rattle.choices.specs.declared.Next.{Next}
-use Rattle.choices.specs.Choosing.{Ruled, sided, Sided, Power, Named, Acting, Read, Takes, from-U, from-V, Lists, Chosen}
+use Rattle.choices.specs.Choosing.{Ruled, sided, Sided, Acting, Read, Takes, from-U, from-V, Lists, Chosen}
 
 -- ---- the data of a code
 

@@ -6,9 +6,14 @@ use gates::Phases;
 use gates::Rule;
 use plans::Action;
 ghost use mathlib.Core.Path.{_≡_};
-ghost use Rattle.plans.specs.Prepare.{as-number};
 ghost use Prim.Native.Nat.{min, max};
+ghost use Rattle.plans.specs.Prepare.{as-number};
 ghost use Rattle.choices.specs.Choosing.{Ruled, Sided, Power, Named, Acting, Read, Chosen};
+
+// The most qubits, and how many masks of them there are.
+const QUBITS: u32 = 16;
+
+const MASKS: u32 = 65536;
 
 // Where the gates of the two lists are read next.
 pub struct Offsets {
@@ -61,7 +66,7 @@ fn rule_on(side: u32, code: u32) -> Rule
 fn power(q: u32) -> u32
     ensures { λ r. ⌜ Power q r ⌝ }
 {
-    if q < 16 {
+    if q < QUBITS {
         return 1 << q;
     }
     0
@@ -76,7 +81,7 @@ fn named(operands: Operands, control: u32, target: u32, second: u32) -> u32
         Operands::Qubit => own,
         Operands::Controlled => power(control) + own,
         Operands::Masked { least: _, targets } => {
-            let mask = control % 65536;
+            let mask = control % MASKS;
             if targets == 2 {
                 return mask + own + power(second);
             }

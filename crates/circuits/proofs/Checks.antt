@@ -9,7 +9,7 @@ use Rattle.gates.specs.Gate.{in-mask}
 use borrow.Author.Tests.{ltb-true, leb-true, eqb-false, not-true}
 use lib.Dec.{ltb, leb, eqb}
 use Rattle.circuits.specs.Refusals.{no-such-qubit, control-is-target, too-few-controls}
-use Rattle.circuits.specs.Reading.{read, number, qubit, target-qubit, mask-below, mask, free-qubit, other-qubit, count}
+use Rattle.circuits.specs.Reading.{read, number, qubit, target-qubit, mask-below, mask, free-qubit, second-qubit, count}
 use Rattle.circuits.proofs.Readings.{checked-read}
 
 both : (a b : Bool) → a && b ≡ true → (a ≡ true) × (b ≡ true)
@@ -44,10 +44,10 @@ module _ (s : List ℕ) (at : ℕ) {v next : ℕ} where
       let q = qubit-checked n (c .0) in
       (q .0, q .1, not-true _ (c .1))
 
-  pub other-checked : (n m p : ℕ) → other-qubit n m p s at ≡ read v next
+  pub second-checked : (n m p : ℕ) → second-qubit n m p s at ≡ read v next
       → (number s at ≡ read v next) × (v < n) × (in-mask m v ≡ false) × (p ≡ v → ⊥)
-  unfolding other-qubit
-  other-checked n m p e =
+  unfolding second-qubit
+  second-checked n m p e =
       let c = checked-read control-is-target (λ q. not (eqb q p)) (free-qubit n m) s at e in
       let q = free-checked n m (c .0) in
       (q .0, q .1, q .2, λ f. eqb-false v p (not-true _ (c .1)) (sym f))

@@ -9,12 +9,12 @@ use Rattle.gates.specs.Gate.{Meant, one, two, mask-one, mask-two, unknown, mean
 use Rattle.gates.specs.declared.Rule.{Rule}
 use Rattle.gates.specs.declared.Decision.{Decision}
 use Rattle.gates.specs.declared.Operands.{Operands}
-use Rattle.gates.specs.declared.Operands.the-variants.{Qubit, Controlled, Masked}
-use Rattle.gates.specs.Rule.{kind-rule, pair-rule, toffoli-rule, fredkin-rule, rule-of, decision, gate-rule}
+use Rattle.gates.specs.declared.Operands.the-variants.{Qubit, Controlled}
+use Rattle.gates.specs.Rule.{kind-rule, pair-rule, rule-of, decision, gate-rule}
 use Rattle.circuits.specs.declared.GateRead.{GateRead}
-use Rattle.circuits.specs.Reading.{Reading, read, refused, qubit, target-qubit, mask, free-qubit, other-qubit, operands, followed}
+use Rattle.circuits.specs.Reading.{Reading, read, refused, qubit, target-qubit, mask, free-qubit, second-qubit, operands, followed}
 use Rattle.circuits.specs.Codes.{kind-code, pair-code, gate-code}
-use Rattle.circuits.specs.Answers.{gate-answer, placed, swapped, controlled, targeted, masked, operands-answer}
+use Rattle.circuits.specs.Answers.{number-answer, gate-answer, placed, swapped, controlled, exchanging, masked, operands-answer}
 
 -- ---- the code of each meaning, and the meaning of each code
 
@@ -123,49 +123,42 @@ unknown-rule unknown e = refl
 
 -- ---- the answer for a gate, by what follows its code
 
+-- a gate that ends with its only target, and one that ends with its second
+placed-answer : (code control : ℕ) (make : ℕ → Gate) → ((q next : ℕ) → GateRead.Gate code control q q next ≡ gate-answer (read (make q) next))
+    → (last : Reading ℕ) → placed code control (number-answer last) ≡ gate-answer (followed last (λ q next. read (make q) next))
+placed-answer code control make same (read q next) = same q next
+placed-answer code control make same (refused r) = refl
+
+swapped-answer : (m p : ℕ) (last : Reading ℕ) → swapped 11 m p (number-answer last) ≡ gate-answer (followed last (λ q next. read (fredkin m p q) next))
+swapped-answer m p (read q next) = refl
+swapped-answer m p (refused r) = refl
+
 module _ (n : ℕ) (s : List ℕ) where
-  single-answer : (k : Kind) (first : Reading ℕ) → placed (kind-code k) 0 first ≡ gate-answer (followed first (λ q next. read (on k q) next))
-  single-answer k (read q next) = refl
-  single-answer k (refused r) = refl
-
-  placed-answer : (k : Pair) (p : ℕ) (second : Reading ℕ)
-      → placed (pair-code k) p second ≡ gate-answer (followed second (λ q next. read (pair k p q) next))
-  placed-answer k p (read q next) = refl
-  placed-answer k p (refused r) = refl
-
-  pair-answer : (k : Pair) (first : Reading ℕ) → controlled (pair-code k) n s first
+  pair-answer : (k : Pair) (first : Reading ℕ) → controlled (pair-code k) n s (number-answer first)
       ≡ gate-answer (followed first (λ p next. followed (target-qubit n p s next) (λ q next. read (pair k p q) next)))
-  pair-answer k (read p next) = placed-answer k p (target-qubit n p s next)
+  pair-answer k (read p next) = placed-answer (pair-code k) p (pair k p) (λ q next. refl) (target-qubit n p s next)
   pair-answer k (refused r) = refl
 
-  flipped-answer : (m : ℕ) (first : Reading ℕ) → targeted 10 m 1 n s first ≡ gate-answer (followed first (λ q next. read (toffoli m q) next))
-  flipped-answer m (read q next) = refl
-  flipped-answer m (refused r) = refl
-
-  toffoli-answer : (first : Reading ℕ) → masked 10 1 n s first
+  toffoli-answer : (first : Reading ℕ) → masked 10 1 n s (number-answer first)
       ≡ gate-answer (followed first (λ m next. followed (free-qubit n m s next) (λ q next. read (toffoli m q) next)))
-  toffoli-answer (read m next) = flipped-answer m (free-qubit n m s next)
+  toffoli-answer (read m next) = placed-answer 10 m (toffoli m) (λ q next. refl) (free-qubit n m s next)
   toffoli-answer (refused r) = refl
 
-  last-answer : (m p : ℕ) (second : Reading ℕ) → swapped 11 m p second ≡ gate-answer (followed second (λ q next. read (fredkin m p q) next))
-  last-answer m p (read q next) = refl
-  last-answer m p (refused r) = refl
+  exchanging-answer : (m : ℕ) (first : Reading ℕ) → exchanging 11 m n s (number-answer first)
+      ≡ gate-answer (followed first (λ p next. followed (second-qubit n m p s next) (λ q next. read (fredkin m p q) next)))
+  exchanging-answer m (read p next) = swapped-answer m p (second-qubit n m p s next)
+  exchanging-answer m (refused r) = refl
 
-  swapped-answer : (m : ℕ) (first : Reading ℕ) → targeted 11 m 2 n s first
-      ≡ gate-answer (followed first (λ p next. followed (other-qubit n m p s next) (λ q next. read (fredkin m p q) next)))
-  swapped-answer m (read p next) = last-answer m p (other-qubit n m p s next)
-  swapped-answer m (refused r) = refl
-
-  fredkin-answer : (first : Reading ℕ) → masked 11 2 n s first ≡ gate-answer (followed first (λ m next. followed (free-qubit n m s next) (λ p next.
-      followed (other-qubit n m p s next) (λ q next. read (fredkin m p q) next))))
-  fredkin-answer (read m next) = swapped-answer m (free-qubit n m s next)
+  fredkin-answer : (first : Reading ℕ) → masked 11 2 n s (number-answer first) ≡ gate-answer (followed first (λ m next.
+      followed (free-qubit n m s next) (λ p next. followed (second-qubit n m p s next) (λ q next. read (fredkin m p q) next))))
+  fredkin-answer (read m next) = exchanging-answer m (free-qubit n m s next)
   fredkin-answer (refused r) = refl
 
   meant-answer : (start at code : ℕ) {rule : Rule} (m : Meant) → meant code ≡ m → rule-of m ≡ Decision.Known rule
       → operands-answer code n s at (rule .operands) ≡ gate-answer (operands n start m s at)
   meant-answer start at code (one k) e f =
       ap₂ (λ (c : ℕ) (o : Operands). operands-answer c n s at o) (meant-one code e) (ap operands-of (sym f) ∙ kind-operands k)
-      ∙ single-answer k (qubit n s at)
+      ∙ placed-answer (kind-code k) 0 (on k) (λ q next. refl) (qubit n s at)
   meant-answer start at code (two k) e f =
       ap₂ (λ (c : ℕ) (o : Operands). operands-answer c n s at o) (meant-two code e) (ap operands-of (sym f) ∙ pair-operands k)
       ∙ pair-answer k (qubit n s at)

@@ -13,12 +13,12 @@ use lib.Dec.{ltb}
 use Rattle.gates.specs.Gate.{Gate, on, pair, toffoli, fredkin, Meant, one, two, mask-one, mask-two, unknown, meant}
 use Rattle.circuits.specs.declared.Limits.{Limits}
 use Rattle.circuits.specs.Refusals.{bad-qubit-count, bad-gate-count}
-use Rattle.circuits.specs.Reading.{Reader, read, _>>=_, pure, number, qubit, target-qubit, mask, free-qubit, other-qubit}
+use Rattle.circuits.specs.Reading.{Reader, read, _>>=_, pure, number, qubit, target-qubit, mask, free-qubit, second-qubit}
 use Rattle.circuits.specs.Reading.{operands, gate, gates}
 use Rattle.circuits.specs.Remaining.{Remaining}
 use Rattle.circuits.specs.Reading.{count, end, Circuit, body, list, decoded}
 use Rattle.circuits.proofs.Readings.{choice, refused-read, read-value, read-next, parts, Step, gates-step, gates-length}
-use Rattle.circuits.proofs.Checks.{qubit-checked, target-checked, mask-checked, free-checked, other-checked, count-checked}
+use Rattle.circuits.proofs.Checks.{qubit-checked, target-checked, mask-checked, free-checked, second-checked, count-checked}
 use Rattle.circuits.proofs.Forms.{number-within}
 
 -- ---- reading stays within the bytes
@@ -50,8 +50,8 @@ mask-stays n least s at m next e h = number-within s at (mask-checked s at n lea
 free-stays : (n m : ℕ) → Stays (free-qubit n m)
 free-stays n m s at q next e h = number-within s at (free-checked s at n m e .0)
 
-other-stays : (n m p : ℕ) → Stays (other-qubit n m p)
-other-stays n m p s at q next e h = number-within s at (other-checked s at n m p e .0)
+other-stays : (n m p : ℕ) → Stays (second-qubit n m p)
+other-stays n m p s at q next e h = number-within s at (second-checked s at n m p e .0)
 
 operands-stays : (n start : ℕ) (m : Meant) → Stays (operands n start m)
 operands-stays n start (one k) s at g next e h = stays-then (qubit-stays n) (λ q. pure-stays (on k q)) s at g next e h

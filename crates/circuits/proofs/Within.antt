@@ -9,11 +9,11 @@ use lib.Pow.{pow-mono}
 use Rattle.gates.specs.Gate.{Gate, on, pair, toffoli, fredkin, Meant, one, two, mask-one, mask-two, unknown, meant, Fits, All-fit}
 use Rattle.circuits.specs.declared.Limits.{Limits}
 use Rattle.circuits.specs.Refusals.{bad-qubit-count, bad-gate-count}
-use Rattle.circuits.specs.Reading.{read, number, qubit, target-qubit, mask, free-qubit, other-qubit, operands, gate, gates, Circuit, decoded}
+use Rattle.circuits.specs.Reading.{read, number, qubit, target-qubit, mask, free-qubit, second-qubit, operands, gate, gates, Circuit, decoded}
 use Rattle.circuits.specs.Answers.{control, first-target, last-target}
 use Rattle.circuits.specs.Within.{Within}
 use Rattle.circuits.proofs.Readings.{refused-read, read-value, parts, gates-step}
-use Rattle.circuits.proofs.Checks.{qubit-checked, target-checked, mask-checked, free-checked, other-checked, count-checked}
+use Rattle.circuits.proofs.Checks.{qubit-checked, target-checked, mask-checked, free-checked, second-checked, count-checked}
 use Rattle.circuits.proofs.Remaining.{decoded-accepted}
 
 -- ---- gates that were read fit
@@ -37,10 +37,10 @@ module _ (n : ℕ) (s : List ℕ) where
   operands-fit start at mask-two e =
       let m = parts (mask n 1 s at) e in
       let p = parts (free-qubit n (m .value) s (m .next)) (m .second) in
-      let q = parts (other-qubit n (m .value) (p .value) s (p .next)) (p .second) in
+      let q = parts (second-qubit n (m .value) (p .value) s (p .next)) (p .second) in
       let k = mask-checked s at n 1 (m .first) in
       let t = free-checked s (m .next) n (m .value) (p .first) in
-      let u = other-checked s (p .next) n (m .value) (p .value) (q .first) in
+      let u = second-checked s (p .next) n (m .value) (p .value) (q .first) in
       subst (Fits n) (read-value (q .second)) ((k .1, k .2), (t .1, t .2), (u .1, u .2), u .3)
   operands-fit start at unknown e = absurd (refused-read e)
 

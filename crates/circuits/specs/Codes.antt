@@ -2,7 +2,7 @@
 use Prim.Native.Nat.{ℕ}
 use Rattle.gates.specs.Gate.{Kind, X, Y, Z, H, S, S†, T, T†, Pair, CNOT, CZ, Gate, on, pair, toffoli, fredkin}
 
--- "Gate codes: 0 X, 1 Y, 2 Z, 3 H, 4 S, 5 S†, 6 T, 7 T†, 8 CNOT, 9 CZ."
+-- "Gate codes: 0 X, 1 Y, 2 Z, 3 H, 4 S, 5 S†, 6 T, 7 T†, 8 CNOT, 9 CZ."; 10 and 11 with a mask
 abbrev pub kind-code : Kind → ℕ
 kind-code X = 0
 kind-code Y = 1

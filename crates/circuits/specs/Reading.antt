@@ -93,8 +93,8 @@ mask n least = checked too-few-controls (λ m. leb least (ones m)) (mask-below n
 unfoldable pub free-qubit : ℕ → ℕ → Reader ℕ
 free-qubit n m = checked control-is-target (λ q. not (in-mask m q)) (qubit n)
 
-unfoldable pub other-qubit : ℕ → ℕ → ℕ → Reader ℕ
-other-qubit n m p = checked control-is-target (λ q. not (eqb q p)) (free-qubit n m)
+unfoldable pub second-qubit : ℕ → ℕ → ℕ → Reader ℕ
+second-qubit n m p = checked control-is-target (λ q. not (eqb q p)) (free-qubit n m)
 
 -- "per gate its code and one qubit, or for 8 and 9 the control and the target"; "Code 10 is a control mask and a target to flip; code 11 is a
 -- control mask and two targets to swap"; after a code that stands at `start`
@@ -113,7 +113,7 @@ operands n start mask-one = do
 operands n start mask-two = do
   m ← mask n 1
   p ← free-qubit n m
-  q ← other-qubit n m p
+  q ← second-qubit n m p
   pure (fredkin m p q)
 operands n start unknown = refuse unknown-code start
 

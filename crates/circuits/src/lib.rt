@@ -1,11 +1,12 @@
 // Gate lists as bytes: numbers and gates, read by slice and offset. Any bytes and any offset are safe input.
 ghost use mathlib.Core.Path.{_≡_};
-ghost use Rattle.circuits.specs.Refusals.{base-limits};
 ghost use Prim.Native.Nat.{_^_};
 ghost use lib.Dec.{ltb};
 ghost use Rattle.gates.specs.Gate.{in-mask};
-ghost use Rattle.circuits.specs.Reading.{last-group, number, qubit, target-qubit, mask-below, mask, free-qubit, other-qubit, gate};
-ghost use Rattle.circuits.specs.Answers.{number-answer, placed, swapped, controlled, targeted, masked, operands-answer, gate-answer};
+ghost use Rattle.circuits.specs.Refusals.{base-limits};
+ghost use Rattle.circuits.specs.Reading.{last-group, number, qubit, target-qubit, mask-below, mask, free-qubit, second-qubit, gate};
+ghost use Rattle.circuits.specs.Answers.{number-answer, kept, placed, swapped, controlled, exchanging, masked};
+ghost use Rattle.circuits.specs.Answers.{operands-answer, gate-answer};
 use gates::Decision;
 use gates::Operands;
 
@@ -120,7 +121,21 @@ pub fn read_number(bytes: &[u8], at: usize) -> NumberRead
     })
 }
 
-// ---- qubits
+// ---- qubits and masks
+
+// The bits of a number; a shift by so many or more is an error.
+const BITS: u32 = 32;
+
+// A number that was read at `at`, if it passes its test; else the test's refusal.
+fn kept(passes: bool, number: u32, at: usize, value: u32, next: usize) -> NumberRead
+    ensures { λ r. ⌜ r ≡ kept passes number at value next ⌝ }
+{
+    if passes {
+        NumberRead::Number { value, next }
+    } else {
+        NumberRead::Refused(Refusal { number, offset: at })
+    }
+}
 
 // A qubit, below the list's qubit count.
 fn read_qubit(bytes: &[u8], at: usize, qubits: u32) -> NumberRead
@@ -129,25 +144,28 @@ fn read_qubit(bytes: &[u8], at: usize, qubits: u32) -> NumberRead
     match read_number(bytes, at) {
         NumberRead::Refused(why) => NumberRead::Refused(why),
         NumberRead::Number { value, next } => {
-            if value < qubits {
-                NumberRead::Number { value, next }
-            } else {
-                NumberRead::Refused(Refusal {
-                    number: NO_SUCH_QUBIT,
-                    offset: at,
-                })
-            }
+            kept(value < qubits, NO_SUCH_QUBIT, at, value, next)
         }
     }
 }
 
-// ---- masks
+// The target of a gate with one control: another qubit.
+fn read_target(bytes: &[u8], at: usize, qubits: u32, control: u32) -> NumberRead
+    ensures { λ r. ⌜ r ≡ number-answer (target-qubit qubits control (now (bytes .entry)) at) ⌝ }
+{
+    match read_qubit(bytes, at, qubits) {
+        NumberRead::Refused(why) => NumberRead::Refused(why),
+        NumberRead::Number { value, next } => {
+            kept(value != control, CONTROL_IS_TARGET, at, value, next)
+        }
+    }
+}
 
 // Whether bit q of the mask is set.
 fn in_mask(mask: u32, q: u32) -> bool
     ensures { λ r. ⌜ r ≡ in-mask mask q ⌝ }
 {
-    if q < 32 {
+    if q < BITS {
         return (mask >> q) % 2 == 1;
     }
     false
@@ -157,7 +175,7 @@ fn in_mask(mask: u32, q: u32) -> bool
 fn below_count(mask: u32, n: u32) -> bool
     ensures { λ r. ⌜ r ≡ ltb mask (2 ^ n) ⌝ }
 {
-    if n < 32 {
+    if n < BITS {
         return (mask >> n) == 0;
     }
     true
@@ -170,14 +188,7 @@ fn read_mask_below(bytes: &[u8], at: usize, qubits: u32) -> NumberRead
     match read_number(bytes, at) {
         NumberRead::Refused(why) => NumberRead::Refused(why),
         NumberRead::Number { value, next } => {
-            if below_count(value, qubits) {
-                NumberRead::Number { value, next }
-            } else {
-                NumberRead::Refused(Refusal {
-                    number: NO_SUCH_QUBIT,
-                    offset: at,
-                })
-            }
+            kept(below_count(value, qubits), NO_SUCH_QUBIT, at, value, next)
         }
     }
 }
@@ -189,14 +200,13 @@ fn read_mask(bytes: &[u8], at: usize, qubits: u32, least: u32) -> NumberRead
     match read_mask_below(bytes, at, qubits) {
         NumberRead::Refused(why) => NumberRead::Refused(why),
         NumberRead::Number { value, next } => {
-            if u32::count_ones(value) < least {
-                NumberRead::Refused(Refusal {
-                    number: TOO_FEW_CONTROLS,
-                    offset: at,
-                })
-            } else {
-                NumberRead::Number { value, next }
-            }
+            kept(
+                least <= u32::count_ones(value),
+                TOO_FEW_CONTROLS,
+                at,
+                value,
+                next,
+            )
         }
     }
 }
@@ -208,73 +218,34 @@ fn read_free(bytes: &[u8], at: usize, qubits: u32, mask: u32) -> NumberRead
     match read_qubit(bytes, at, qubits) {
         NumberRead::Refused(why) => NumberRead::Refused(why),
         NumberRead::Number { value, next } => {
-            if in_mask(mask, value) {
-                NumberRead::Refused(Refusal {
-                    number: CONTROL_IS_TARGET,
-                    offset: at,
-                })
-            } else {
-                NumberRead::Number { value, next }
-            }
+            kept(!in_mask(mask, value), CONTROL_IS_TARGET, at, value, next)
         }
     }
 }
 
 // A second target, which is neither in the mask nor the first.
-fn read_other(bytes: &[u8], at: usize, qubits: u32, mask: u32, first: u32) -> NumberRead
-    ensures { λ r. ⌜ r ≡ number-answer (other-qubit qubits mask first (now (bytes .entry)) at) ⌝ }
+fn read_second(bytes: &[u8], at: usize, qubits: u32, mask: u32, first: u32) -> NumberRead
+    ensures { λ r. ⌜ r ≡ number-answer (second-qubit qubits mask first (now (bytes .entry)) at) ⌝ }
 {
     match read_free(bytes, at, qubits, mask) {
         NumberRead::Refused(why) => NumberRead::Refused(why),
         NumberRead::Number { value, next } => {
-            if value == first {
-                NumberRead::Refused(Refusal {
-                    number: CONTROL_IS_TARGET,
-                    offset: at,
-                })
-            } else {
-                NumberRead::Number { value, next }
-            }
+            kept(value != first, CONTROL_IS_TARGET, at, value, next)
         }
     }
 }
 
 // ---- gates
 
-// The target of a gate that has a control: another qubit.
-fn read_target(bytes: &[u8], at: usize, qubits: u32, code: u32, control: u32) -> GateRead
-    ensures { λ r. ⌜ r ≡ placed code control (target-qubit qubits control (now (bytes .entry)) at) ⌝ }
+// The gate of this code and control or mask, by what was read as its only target.
+fn place(code: u32, control: u32, target: NumberRead) -> GateRead
+    ensures { λ r. ⌜ r ≡ placed code control target ⌝ }
 {
-    match read_qubit(bytes, at, qubits) {
-        NumberRead::Refused(why) => GateRead::Refused(why),
-        NumberRead::Number { value, next } => {
-            if value == control {
-                GateRead::Refused(Refusal {
-                    number: CONTROL_IS_TARGET,
-                    offset: at,
-                })
-            } else {
-                GateRead::Gate {
-                    code,
-                    control,
-                    target: value,
-                    second: value,
-                    next,
-                }
-            }
-        }
-    }
-}
-
-// A gate of one qubit, after its code.
-fn read_single(bytes: &[u8], at: usize, qubits: u32, code: u32) -> GateRead
-    ensures { λ r. ⌜ r ≡ placed code 0 (qubit qubits (now (bytes .entry)) at) ⌝ }
-{
-    match read_qubit(bytes, at, qubits) {
+    match target {
         NumberRead::Refused(why) => GateRead::Refused(why),
         NumberRead::Number { value, next } => GateRead::Gate {
             code,
-            control: 0,
+            control,
             target: value,
             second: value,
             next,
@@ -282,21 +253,11 @@ fn read_single(bytes: &[u8], at: usize, qubits: u32, code: u32) -> GateRead
     }
 }
 
-// A gate of a control and a target, after its code.
-fn read_controlled(bytes: &[u8], at: usize, qubits: u32, code: u32) -> GateRead
-    ensures { λ r. ⌜ r ≡ controlled code qubits (now (bytes .entry)) (qubit qubits (now (bytes .entry)) at) ⌝ }
+// The gate of this code, mask and first target, by what was read as its second.
+fn swap(code: u32, mask: u32, first: u32, second: NumberRead) -> GateRead
+    ensures { λ r. ⌜ r ≡ swapped code mask first second ⌝ }
 {
-    match read_qubit(bytes, at, qubits) {
-        NumberRead::Refused(why) => GateRead::Refused(why),
-        NumberRead::Number { value, next } => read_target(bytes, next, qubits, code, value),
-    }
-}
-
-// The second target, after the mask and the first.
-fn read_last(bytes: &[u8], at: usize, qubits: u32, code: u32, mask: u32, first: u32) -> GateRead
-    ensures { λ r. ⌜ r ≡ swapped code mask first (other-qubit qubits mask first (now (bytes .entry)) at) ⌝ }
-{
-    match read_other(bytes, at, qubits, mask, first) {
+    match second {
         NumberRead::Refused(why) => GateRead::Refused(why),
         NumberRead::Number { value, next } => GateRead::Gate {
             code,
@@ -308,36 +269,36 @@ fn read_last(bytes: &[u8], at: usize, qubits: u32, code: u32, mask: u32, first: 
     }
 }
 
-// One target or two, after the mask.
-fn read_targets(
-    bytes: &[u8],
-    at: usize,
-    qubits: u32,
-    code: u32,
-    mask: u32,
-    targets: u32,
-) -> GateRead
-    ensures { λ r. ⌜ r ≡ targeted code mask targets qubits (now (bytes .entry)) (free-qubit qubits mask (now (bytes .entry)) at) ⌝ }
+// A gate of a control and a target, after its code.
+fn read_controlled(bytes: &[u8], at: usize, qubits: u32, code: u32) -> GateRead
+    ensures { λ r. ⌜ r ≡ controlled code qubits (now (bytes .entry)) (number-answer (qubit qubits (now (bytes .entry)) at)) ⌝ }
 {
-    match read_free(bytes, at, qubits, mask) {
+    match read_qubit(bytes, at, qubits) {
         NumberRead::Refused(why) => GateRead::Refused(why),
         NumberRead::Number { value, next } => {
-            if targets == 2 {
-                read_last(bytes, next, qubits, code, mask, value)
-            } else {
-                GateRead::Gate {
-                    code,
-                    control: mask,
-                    target: value,
-                    second: value,
-                    next,
-                }
-            }
+            place(code, value, read_target(bytes, next, qubits, value))
         }
     }
 }
 
-// A mask of controls and the targets, after the code.
+// Two targets, after the mask.
+fn read_targets(bytes: &[u8], at: usize, qubits: u32, code: u32, mask: u32) -> GateRead
+    ensures { λ r. ⌜ r ≡ exchanging code mask qubits (now (bytes .entry)) (number-answer (free-qubit qubits mask (now (bytes .entry)) at)) ⌝ }
+{
+    match read_free(bytes, at, qubits, mask) {
+        NumberRead::Refused(why) => GateRead::Refused(why),
+        NumberRead::Number { value, next } => {
+            swap(
+                code,
+                mask,
+                value,
+                read_second(bytes, next, qubits, mask, value),
+            )
+        }
+    }
+}
+
+// A mask of controls and one target or two, after the code.
 fn read_masked(
     bytes: &[u8],
     at: usize,
@@ -346,18 +307,16 @@ fn read_masked(
     least: u32,
     targets: u32,
 ) -> GateRead
-    ensures { λ r. ⌜ r ≡ masked code targets qubits (now (bytes .entry)) (mask qubits least (now (bytes .entry)) at) ⌝ }
+    ensures { λ r. ⌜ r ≡ masked code targets qubits (now (bytes .entry)) (number-answer (mask qubits least (now (bytes .entry)) at)) ⌝ }
 {
     match read_mask(bytes, at, qubits, least) {
         NumberRead::Refused(why) => GateRead::Refused(why),
-        NumberRead::Number { value, next } => read_targets(
-            bytes,
-            next,
-            qubits,
-            code,
-            value,
-            targets,
-        ),
+        NumberRead::Number { value, next } => {
+            if targets == 2 {
+                return read_targets(bytes, next, qubits, code, value);
+            }
+            place(code, value, read_free(bytes, next, qubits, value))
+        }
     }
 }
 
@@ -366,7 +325,7 @@ fn read_operands(bytes: &[u8], at: usize, qubits: u32, code: u32, operands: Oper
     ensures { λ r. ⌜ r ≡ operands-answer code qubits (now (bytes .entry)) at operands ⌝ }
 {
     match operands {
-        Operands::Qubit => read_single(bytes, at, qubits, code),
+        Operands::Qubit => place(code, 0, read_qubit(bytes, at, qubits)),
         Operands::Controlled => read_controlled(bytes, at, qubits, code),
         Operands::Masked { least, targets } => {
             read_masked(bytes, at, qubits, code, least, targets)

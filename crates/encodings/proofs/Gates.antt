@@ -10,7 +10,7 @@ use native.Mathlib.Omega.{arith}
 use borrow.Author.Tests.{lt-ltb, le-leb, ne-eqb}
 use lib.ListN.{length}
 use Rattle.gates.specs.Gate.{X, Y, Z, H, S, S†, T, T†, CNOT, CZ, Gate, on, pair, toffoli, fredkin, in-mask, meant, Fits, All-fit}
-use Rattle.circuits.specs.Reading.{read, qubit, target-qubit, mask-below, mask, free-qubit, other-qubit, gate, gates}
+use Rattle.circuits.specs.Reading.{read, qubit, target-qubit, mask-below, mask, free-qubit, second-qubit, gate, gates}
 use Rattle.circuits.specs.Codes.{kind-code, pair-code, gate-code}
 use Rattle.encodings.specs.Encoding.{number-bytes, gate-bytes, gates-bytes}
 use Rattle.circuits.proofs.Codes.{kind-meant, pair-meant}
@@ -52,10 +52,10 @@ module _ (n : ℕ) (few : n < 2097152) (narrow : 2 ^ n ≤ 2097152) (s : List �
   unfolding free-qubit
   free-reads m at {q} h free e = rw (qubit-reads at h e, free)
 
-  other-reads : (m p at : ℕ) {q next : ℕ} → q < n → in-mask m q ≡ false → (p ≡ q → ⊥) → Spelled s at (number-bytes q) next
-      → other-qubit n m p s at ≡ read q next
-  unfolding other-qubit
-  other-reads m p at {q} h free other e = rw (free-reads m at h free e, ne-eqb q p (λ f. other (sym f)))
+  second-reads : (m p at : ℕ) {q next : ℕ} → q < n → in-mask m q ≡ false → (p ≡ q → ⊥) → Spelled s at (number-bytes q) next
+      → second-qubit n m p s at ≡ read q next
+  unfolding second-qubit
+  second-reads m p at {q} h free other e = rw (free-reads m at h free e, ne-eqb q p (λ f. other (sym f)))
 
   gate-reads : (at : ℕ) (g : Gate) {next : ℕ} → Fits n g → Spelled s at (gate-bytes g) next → gate n s at ≡ read g next
   unfolding gate meant
@@ -76,7 +76,7 @@ module _ (n : ℕ) (few : n < 2097152) (narrow : 2 ^ n ≤ 2097152) (s : List �
       let d = split (number-bytes mask) (number-bytes p ++ number-bytes q) (c .1) in
       let f = split (number-bytes p) (number-bytes q) (d .1) in
       rw (number-reads s at (c .0) (omega arith), mask-reads 1 _ (fits .0 .0) (fits .0 .1) (d .0))
-      (rw (free-reads mask _ (fits .1 .0) (fits .1 .1) (f .0)) (rw (other-reads mask p _ (fits .2 .0) (fits .2 .1) (fits .3) (f .1))))
+      (rw (free-reads mask _ (fits .1 .0) (fits .1 .1) (f .0)) (rw (second-reads mask p _ (fits .2 .0) (fits .2 .1) (fits .3) (f .1))))
 
   pub gates-read : (at : ℕ) (gs : List Gate) {next : ℕ} → All-fit n gs → Spelled s at (gates-bytes gs) next
       → gates n (length gs) s at ≡ read gs next

@@ -7,10 +7,10 @@ use Prim.Native.Nat.{ℕ}
 use lib.ListN.{length}
 use Rattle.gates.specs.Gate.{Gate, Meant, one, two, mask-one, mask-two, unknown, meant}
 use Rattle.circuits.specs.declared.Limits.{Limits}
-use Rattle.circuits.specs.Reading.{read, number, qubit, target-qubit, mask, free-qubit, other-qubit, operands, gate, gates, Circuit, decoded}
+use Rattle.circuits.specs.Reading.{read, number, qubit, target-qubit, mask, free-qubit, second-qubit, operands, gate, gates, Circuit, decoded}
 use Rattle.circuits.specs.Codes.{gate-code}
 use Rattle.circuits.proofs.Readings.{read-value, read-next, refused-read, parts, gates-step}
-use Rattle.circuits.proofs.Checks.{qubit-checked, target-checked, mask-checked, free-checked, other-checked, count-checked}
+use Rattle.circuits.proofs.Checks.{qubit-checked, target-checked, mask-checked, free-checked, second-checked, count-checked}
 use Rattle.circuits.proofs.Codes.{meant-one, meant-two, meant-mask-one, meant-mask-two}
 use Rattle.circuits.proofs.Remaining.{decoded-accepted}
 use Rattle.encodings.specs.Encoding.{number-bytes, operand-bytes, gate-bytes, gates-bytes}
@@ -51,10 +51,10 @@ module _ (s : List ℕ) {Of : ℕ → List ℕ → ℕ → Type 0} (stretch : St
     operands-rest code start at mask-two e f =
         let m = parts (mask n 1 s at) f in
         let p = parts (free-qubit n (m .value) s (m .next)) (m .second) in
-        let q = parts (other-qubit n (m .value) (p .value) s (p .next)) (p .second) in
+        let q = parts (second-qubit n (m .value) (p .value) s (p .next)) (p .second) in
         let controls = stretch .of-number at (mask-checked s at n 1 (m .first) .0) in
         let first = stretch .of-number (m .next) (free-checked s (m .next) n (m .value) (p .first) .0) in
-        let second = stretch .of-number (p .next) (other-checked s (p .next) n (m .value) (p .value) (q .first) .0) in
+        let second = stretch .of-number (p .next) (second-checked s (p .next) n (m .value) (p .value) (q .first) .0) in
         subst₂ (Rest code at) (read-value (q .second)) (read-next (q .second))
         (record { code-is = meant-mask-two code e; of-operands = stretch .of-both controls (stretch .of-both first second) })
     operands-rest code start at unknown e f = absurd (refused-read f)

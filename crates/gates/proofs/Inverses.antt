@@ -1,9 +1,9 @@
 -- A gate times its inverse, either way round, is a power of 2 times the identity: √2 twice for each H.
 -- Assumes nothing.
 use mathlib.Core.Path.{_≡_, refl, sym, _∙_, ap, ap₂, subst, _≡⟨_⟩_, _∎}
-use mathlib.Core.Bool.{Bool, true, false, not, cond, _&&_, _||_, Bool·beq}
-use mathlib.Core.List.{[], _∷_}
-use Prim.Native.Nat.{ℕ, zero, suc, _+_, _<_}
+use mathlib.Core.Bool.{Bool, true, false, cond, _&&_, Bool·beq}
+use mathlib.Core.List.{[]}
+use Prim.Native.Nat.{ℕ, _+_, _<_}
 use native.Mathlib.Omega.{arith}
 use lib.ListN.{length, set}
 use lib.Seq.{getD-set-same}
@@ -16,10 +16,10 @@ use Rattle.algebra.proofs.Matrices.{Alike, scaled, product-alike, _≈⟨_⟩_,
 use Rattle.gates.specs.Gate.{Kind, X, Y, Z, H, S, S†, T, T†, Pair, CNOT, CZ, Gate, on, pair, toffoli, fredkin}
 use Rattle.gates.specs.Gate.{is, bit, agree, in-mask, all-set, matrix, Fits, inverse, inverse-kind, halves}
 use Rattle.gates.specs.Rule.{left-matrix, gate-rule, kind-rule, pair-rule, toffoli-rule}
-use Rattle.gates.proofs.Naming.{is-refl, is-sound, without-self, all-set-set, agree-none, agree-without, agree-set}
+use Rattle.gates.proofs.Naming.{is-refl, is-apart, without-self, all-set-set, agree-none, agree-without, agree-set}
 use Rattle.gates.proofs.Rules.{four}
 use Rattle.gates.proofs.LocalRules.{where-set, on-target, row-times, on-target-sum, line-of, matrix-left, all-set-none}
-use Rattle.gates.proofs.LocalRules.{swapped-twice, swapped-line, swapped-sum}
+use Rattle.gates.proofs.Swaps.{swapped-twice, swapped-line, swapped-sum}
 
 -- ---- the small matrices
 
@@ -121,13 +121,6 @@ swapped-undone n P p q p<n q<n p-free q-free = record { at = at-entries }
         ∙ ap (λ l. cond (same l c) 𝟙 𝟘) (swapped-twice P p q p-free q-free r (omega (arith, p<n)) (omega (arith, q<n)))
         ∙ sym (one-mul entries (cond (same r c) 𝟙 𝟘))
 
-control-apart : (p q : ℕ) → (p ≡ q → ⊥) → is p q ≡ false
-control-apart p q apart = by-name (is p q) refl
-  where
-    by-name : (b : Bool) → is p q ≡ b → b ≡ false
-    by-name true e = absurd (apart (is-sound p q e))
-    by-name false e = refl
-
 -- the inverse has the same controls and targets
 lines-undone : (n : ℕ) (g : Gate) → Fits n g
     → Alike n (product n (line-of g (gate-rule g .left)) (line-of (inverse g) (gate-rule (inverse g) .left))) (scaled (√2^ (halves g + halves g)) identity)
@@ -135,7 +128,7 @@ lines-undone n (on k q) h =
     on-target-undone n (left-matrix (kind-rule k)) (left-matrix (kind-rule (inverse-kind k))) (λ i. false) q (halves (on k q) + halves (on k q)) h refl
     (λ l x y. rw (all-set-none l) (kind-undone k q x y))
 lines-undone n (pair k p q) h =
-    on-target-undone n (left-matrix (pair-rule k)) (left-matrix (pair-rule k)) (is p) q 0 (h .1) (control-apart p q (h .2))
+    on-target-undone n (left-matrix (pair-rule k)) (left-matrix (pair-rule k)) (is p) q 0 (h .1) (is-apart p q (h .2))
     (λ l. pair-undone k (all-set (is p) l))
 lines-undone n (toffoli mask q) h =
     on-target-undone n (left-matrix toffoli-rule) (left-matrix toffoli-rule) (in-mask mask) q 0 (h .1) (h .2) (λ l. toffoli-undone (all-set (in-mask mask) l))

@@ -1,28 +1,29 @@
 -- The product with a gate is its local rule, from the left and from the right: one argument over the gate's data.
 -- Assumes nothing.
 use mathlib.Core.Path.{_≡_, refl, sym, _∙_, ap, ap₂, _≡⟨_⟩_, _∎}
-use mathlib.Core.Bool.{Bool, true, false, not, cond, _&&_, _||_, Bool·beq, and-true, and-assoc, true≢false}
+use mathlib.Core.Bool.{Bool, true, false, not, cond, _&&_, _||_, Bool·beq, and-true}
 use mathlib.Core.List.{[], _∷_}
 use Prim.Native.Nat.{ℕ, zero, suc, _<_, min, max}
 use native.Mathlib.Omega.{arith}
-use lib.ListN.{length, set, length-set}
+use lib.ListN.{length, set}
 use lib.Seq.{getD-set-same, set-getD}
 use Rattle.algebra.specs.declared.Entry.{Entry}
 use Rattle.algebra.specs.Entry.{𝟘, 𝟙, neg, _⊕_, _⊖_, _⊗_, turned, w8^}
-use Rattle.algebra.specs.Matrix.{Bits, Matrix, total, product, same}
+use Rattle.algebra.specs.Matrix.{Bits, Matrix, total, product}
 use Rattle.algebra.proofs.Rings.{zero-add, one-mul, zero-mul, neg-mul}
 use Rattle.algebra.proofs.Entries.{entries, ⊕-zero, ⊖-is, turned-is, cond-⊗, cond-cond}
-use Rattle.algebra.proofs.Sums.{beq-sym, same-refl, same-sound, total-ext, total-pick}
+use Rattle.algebra.proofs.Sums.{beq-sym, total-ext}
 use Rattle.algebra.proofs.Matrices.{product-transpose}
 use Rattle.gates.specs.declared.Phases.{Phases}
 use Rattle.gates.specs.declared.Rule.{Rule}
-use Rattle.gates.specs.Gate.{Kind, X, Y, Z, H, S, S†, T, T†, Pair, CNOT, CZ, Gate, on, pair, toffoli, fredkin, small, table, is, bit, agree, agree-in, in-mask, all-set, exchanged}
-use Rattle.gates.specs.Gate.{names, named-entry, matrix, Fits}
+use Rattle.gates.specs.Gate.{Kind, X, Y, Z, H, S, S†, T, T†, Pair, CNOT, CZ, Gate, on, pair, toffoli, fredkin, small, table}
+use Rattle.gates.specs.Gate.{is, bit, agree, agree-in, in-mask, all-set, exchanged, names, matrix, Fits}
 use Rattle.gates.specs.Rule.{phase, acting, controlled, kind-rule, pair-rule, toffoli-rule, fredkin-rule, gate-rule, controls, target}
 use Rattle.gates.specs.Rule.{second, mixed, moved, acted}
-use Rattle.gates.proofs.Naming.{is-refl, is-sound, without, without-self, without-first, without-controls, exchanged-twice, exchanged-one}
-use Rattle.gates.proofs.Naming.{exchanged-other, exchanged-ordered, all-set-exchanged, all-set-agree, agree-and, agree-sym, agree-none, agree-set, agree-without, total-agree, spread-one}
+use Rattle.gates.proofs.Naming.{is-sound, without, without-first, without-controls, exchanged-ordered, all-set-agree}
+use Rattle.gates.proofs.Naming.{agree-and, agree-sym, agree-without, total-agree, spread-one}
 use Rattle.gates.proofs.Rules.{kind-left, kind-right, pair-left, pair-right, toffoli-data}
+use Rattle.gates.proofs.Swaps.{swapped-sym, swap-agrees, swapped-line, swapped-sum}
 
 -- ---- a small matrix on a target, where every control is 1
 
@@ -163,102 +164,6 @@ toffoli-entry m is-X true true false true = sym (is-X false true)
 toffoli-entry m is-X true true true false = sym (is-X true false)
 toffoli-entry m is-X true true true true = sym (is-X true true)
 
--- ---- two targets: in each row a 1, where the targets' bits are exchanged
-
-module _ (P : ℕ → Bool) (p q : ℕ) where
-  abbrev pub swapped : Bits → Bits
-  swapped l = cond (all-set P l) (exchanged p q l) l
-
-  module _ (p-free : P p ≡ false) (q-free : P q ≡ false) where
-    pub swapped-twice : (l : Bits) → p < length l → q < length l → swapped (swapped l) ≡ l
-    swapped-twice l h k = cases (all-set P l) refl
-      where
-        cases : (b : Bool) → all-set P l ≡ b → swapped (cond b (exchanged p q l) l) ≡ l
-        cases true e = rw (all-set-exchanged P p q l p-free q-free, e) (exchanged-twice p q l h k)
-        cases false e = rw e
-
-    pub swapped-sym : (r c : Bits) → p < length r → q < length r → p < length c → q < length c → same (swapped r) c ≡ same (swapped c) r
-    swapped-sym r c h k h′ k′ = iff (same (swapped r) c) (same (swapped c) r) (turn r c h k) (turn c r h′ k′)
-      where
-        turn : (x y : Bits) → p < length x → q < length x → same (swapped x) y ≡ true → same (swapped y) x ≡ true
-        turn x y hx kx e = ap (λ z. same (swapped z) x) (sym (same-sound (swapped x) y e)) ∙ ap (λ z. same z x) (swapped-twice x hx kx) ∙ same-refl x
-
-        iff : (a b : Bool) → (a ≡ true → b ≡ true) → (b ≡ true → a ≡ true) → a ≡ b
-        iff true b f g = sym (f refl)
-        iff false true f g = g refl
-        iff false false f g = refl
-
-    module _ (apart : p ≡ q → ⊥) (r c : Bits) (h : p < length r) (k : q < length r) where
-      abbrev both : ℕ → Bool
-      both i = is p i || is q i
-
-      length-swapped : (b : Bool) → length (cond b (exchanged p q r) r) ≡ length r
-      length-swapped true = length-set (set r p (bit r q)) q (bit r p) ∙ length-set r p (bit r q)
-      length-swapped false = refl
-
-      named-both : (both p ≡ true) × (both q ≡ true)
-      named-both = (ap (λ b. b || is q p) (is-refl p), last (is p q))
-        where
-          last : (b : Bool) → (b || is q q) ≡ true
-          last true = refl
-          last false = is-refl q
-
-      -- the bits at the targets, and agreement off them, by whether the swap is made
-      at-targets : (b : Bool) → (bit r (cond b q p) ≡ bit (cond b (exchanged p q r) r) p) × (bit r (cond b p q) ≡ bit (cond b (exchanged p q r) r) q)
-          × (agree both r c ≡ agree both (cond b (exchanged p q r) r) c)
-      at-targets true = (
-        sym (exchanged-one p q r apart h k),
-        sym (exchanged-other p q r apart h k),
-        sym (agree-set both (set r p (bit r q)) c q (bit r p) (named-both .1) ∙ agree-set both r c p (bit r q) (named-both .0)),
-      )
-      at-targets false = (refl, refl, refl)
-
-      -- agreement off the targets and in both of them is sameness
-      agree-both : (l : Bits) → p < length l → q < length l
-          → (agree both l c && (Bool·beq (bit l p) (bit c p) && Bool·beq (bit l q) (bit c q))) ≡ same l c
-      agree-both l hl kl =
-          sym (and-assoc (agree both l c) (Bool·beq (bit l p) (bit c p)) (Bool·beq (bit l q) (bit c q)))
-          ∙ ap (λ b. b && Bool·beq (bit l q) (bit c q)) (agree-without both l c p hl ∙ ap (λ n. agree n l c) (without-first p q apart))
-          ∙ agree-without (is q) l c q kl
-          ∙ ap (λ n. agree n l c) (without-self q) ∙ agree-none l c
-
-      swap-agrees : let active = all-set P r in
-          (agree (λ i. P i || both i) r c && (agree-in P r c
-          && (Bool·beq (bit r (cond active q p)) (bit c p) && Bool·beq (bit r (cond active p q)) (bit c q)))) ≡ same (swapped r) c
-      swap-agrees =
-          let long = length-swapped (all-set P r) in
-          let at = at-targets (all-set P r) in
-          let one : Bool = Bool·beq (bit r (cond (all-set P r) q p)) (bit c p) in
-          let two : Bool = Bool·beq (bit r (cond (all-set P r) p q)) (bit c q) in
-          sym (and-assoc (agree (λ i. P i || both i) r c) (agree-in P r c) (one && two))
-          ∙ ap (λ b. b && (one && two)) (agree-and (λ i. P i || both i) (λ i. not (P i)) r c
-          ∙ ap (λ n. agree n r c) (without-controls P both free))
-          ∙ ap₂ (λ x y. agree both r c && (Bool·beq x (bit c p) && Bool·beq y (bit c q))) (at .0) (at .1)
-          ∙ ap (λ b. b && (Bool·beq (bit (swapped r) p) (bit c p) && Bool·beq (bit (swapped r) q) (bit c q))) (at .2)
-          ∙ agree-both (swapped r) (omega (arith, h, long)) (omega (arith, k, long))
-        where
-          free : (i : ℕ) → both i ≡ true → P i ≡ false
-          free i e = by-name (is p i) refl (is q i) refl
-            where
-              by-name : (a : Bool) → is p i ≡ a → (b : Bool) → is q i ≡ b → P i ≡ false
-              by-name true f b g = ap P (sym (is-sound p i f)) ∙ p-free
-              by-name false f true g = ap P (sym (is-sound q i g)) ∙ q-free
-              by-name false f false g = absurd (true≢false (sym e ∙ ap₂ (λ a b. a || b) f g))
-
--- in row l a 1 where the targets' bits are exchanged
-abbrev pub swapped-line : (ℕ → Bool) → ℕ → ℕ → Matrix
-swapped-line P p q l x = cond (same (swapped P p q l) x) 𝟙 𝟘
-
-pub swapped-sum : (n : ℕ) (P : ℕ → Bool) (p q : ℕ) (F : Bits → Entry) (l : Bits) → length l ≡ n
-    → total n (λ x. swapped-line P p q l x ⊗ F x) ≡ F (swapped P p q l)
-swapped-sum n P p q F l e =
-    total-ext n _ _ (λ x k. cond-⊗ (same (swapped P p q l) x) 𝟙 (F x) ∙ ap (λ y. cond (same (swapped P p q l) x) y 𝟘) (one-mul entries (F x)))
-    ∙ total-pick n (swapped P p q l) F (long (all-set P l))
-  where
-    long : (b : Bool) → length (cond b (exchanged p q l) l) ≡ n
-    long true = length-set (set l p (bit l q)) q (bit l p) ∙ length-set l p (bit l q) ∙ e
-    long false = e
-
 -- ---- a gate's matrix, a line at a time
 
 -- the line of the gate's matrix at l: a row with the left-hand phases, a column with the right-hand ones
@@ -277,7 +182,8 @@ matrix-left n (pair k p q) h r c e =
     ∙ one-control p q (acting (pair-rule k) (pair-rule k .left)) (h .2) r c (omega (arith, h .0))
 matrix-left n (toffoli mask q) h r c e =
     ap (λ x. cond (agree (names (toffoli mask q)) r c) x 𝟘)
-    (toffoli-entry (acting toffoli-rule (toffoli-rule .left)) (λ x y. toffoli-data x y .0) (agree-in (in-mask mask) r c) (all-set (in-mask mask) r) (bit r q) (bit c q))
+    (toffoli-entry (acting toffoli-rule (toffoli-rule .left)) (λ x y. toffoli-data x y .0) (agree-in (in-mask mask) r c) (all-set (in-mask mask) r)
+    (bit r q) (bit c q))
     ∙ many-controls (in-mask mask) q (acting toffoli-rule (toffoli-rule .left)) (h .2) r c
 matrix-left n (fredkin mask p q) h r c e =
     cond-cond (agree (names (fredkin mask p q)) r c) _ 𝟙
@@ -286,7 +192,8 @@ matrix-left n (fredkin mask p q) h r c e =
 -- a symmetric small matrix on a target that is no control makes a symmetric matrix
 on-target-sym : (m : Bool → Bool → Entry) → ((x y : Bool) → m x y ≡ m y x) → (P : ℕ → Bool) (q : ℕ) → P q ≡ false → (r c : Bits)
     → on-target m P q r c ≡ on-target m P q c r
-on-target-sym m symmetric P q free r c = cases (agree (is q) r c) refl ∙ ap (λ b. cond b (where-set m (all-set P c) (bit c q) (bit r q)) 𝟘) (agree-sym (is q) r c)
+on-target-sym m symmetric P q free r c =
+    cases (agree (is q) r c) refl ∙ ap (λ b. cond b (where-set m (all-set P c) (bit c q) (bit r q)) 𝟘) (agree-sym (is q) r c)
   where
     other : (i : ℕ) → is q i ≡ true → P i ≡ false
     other i e = ap P (sym (is-sound q i e)) ∙ free
@@ -344,8 +251,8 @@ on-target-acts : (n : ℕ) (rule : Rule) (p : Phases) (P : ℕ → Bool) (q q′
     → total n (λ x. on-target (acting rule p) P q l x ⊗ F x) ≡ acted rule p P q q′ F l
 on-target-acts n rule p P q q′ alone h F l e = on-target-sum n (acting rule p) P q F l h e ∙ acted-is rule p P q q′ F l alone
 
-swapped-acts : (n : ℕ) (P : ℕ → Bool) (p q : ℕ) (ph : Phases) (rule : Rule) → rule .swaps ≡ true → rule .mixes ≡ false → (F : Bits → Entry) (l : Bits) → length l ≡ n
-    → total n (λ x. swapped-line P p q l x ⊗ F x) ≡ acted rule ph P (min p q) (max p q) F l
+swapped-acts : (n : ℕ) (P : ℕ → Bool) (p q : ℕ) (ph : Phases) (rule : Rule) → rule .swaps ≡ true → rule .mixes ≡ false
+    → (F : Bits → Entry) (l : Bits) → length l ≡ n → total n (λ x. swapped-line P p q l x ⊗ F x) ≡ acted rule ph P (min p q) (max p q) F l
 unfolding acted
 swapped-acts n P p q ph rule swaps moves F l e =
     swapped-sum n P p q F l e ∙ cases (all-set P l)
@@ -355,7 +262,7 @@ swapped-acts n P p q ph rule swaps moves F l e =
     cases true = rw (moves, swaps) (ap F (exchanged-ordered p q l))
     cases false = refl
 
-kind-alone : (k : Kind) → kind-rule k .swaps ≡ false
+pub kind-alone : (k : Kind) → kind-rule k .swaps ≡ false
 kind-alone X = refl
 kind-alone Y = refl
 kind-alone Z = refl
@@ -365,12 +272,13 @@ kind-alone S† = refl
 kind-alone T = refl
 kind-alone T† = refl
 
-pair-alone : (k : Pair) → pair-rule k .swaps ≡ false
+pub pair-alone : (k : Pair) → pair-rule k .swaps ≡ false
 pair-alone CNOT = refl
 pair-alone CZ = refl
 
 -- a sum over a line of the gate's matrix, a row or a column, is the local rule with that side's phases
-line-acts : (n : ℕ) (g : Gate) → Fits n g → (p : Phases) (line F : Bits → Entry) (l : Bits) → length l ≡ n → ((x : Bits) → length x ≡ n → line x ≡ line-of g p l x)
+line-acts : (n : ℕ) (g : Gate) → Fits n g → (p : Phases) (line F : Bits → Entry) (l : Bits) → length l ≡ n
+    → ((x : Bits) → length x ≡ n → line x ≡ line-of g p l x)
     → total n (λ x. line x ⊗ F x) ≡ acted (gate-rule g) p (controls g) (target g) (second g) F l
 line-acts n g h p line F l e is-line = total-ext n _ _ (λ x k. ap (λ y. y ⊗ F x) (is-line x k)) ∙ acts g h
   where

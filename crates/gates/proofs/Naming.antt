@@ -2,6 +2,7 @@
 -- Assumes nothing.
 use mathlib.Core.Path.{_≡_, refl, sym, _∙_, ap, ap₂, fun-ext}
 use mathlib.Core.Bool.{Bool, true, false, not, cond, _&&_, _||_, Bool·beq, and-true, and-false, and-assoc, and-not-self, true≢false}
+use mathlib.Core.Logic.{_⊎_, inl, inr}
 use mathlib.Core.List.{[], _∷_}
 use Prim.Native.Nat.{ℕ, zero, suc, _<_, min, max}
 use native.Mathlib.Decide.{decLt}
@@ -14,7 +15,7 @@ use Rattle.algebra.specs.Matrix.{Bits, total, same}
 use Rattle.algebra.proofs.Rings.{zero-add}
 use Rattle.algebra.proofs.Entries.{entries, ⊕-zero}
 use Rattle.algebra.proofs.Sums.{beq-sym, at-bit, total-zero}
-use Rattle.gates.specs.Gate.{is, bit, agree, agree-in, all-set, exchanged}
+use Rattle.gates.specs.Gate.{is, bit, agree, all-set, exchanged}
 
 -- ---- names
 
@@ -28,6 +29,18 @@ is-sound zero (suc q) e = absurd (true≢false (sym e))
 is-sound (suc p) zero e = absurd (true≢false (sym e))
 is-sound (suc p) (suc q) e = ap suc (is-sound p q e)
 
+pub is-apart : (p q : ℕ) → (p ≡ q → ⊥) → is p q ≡ false
+is-apart p q apart = by-name (is p q) refl
+  where
+    by-name : (b : Bool) → is p q ≡ b → b ≡ false
+    by-name true e = absurd (apart (is-sound p q e))
+    by-name false e = refl
+
+-- what two sets name together, one of them does
+pub either : (a b : Bool) → (a || b) ≡ true → (a ≡ true) ⊎ (b ≡ true)
+either true b e = inl refl
+either false b e = inr e
+
 -- the set without q
 abbrev pub without : (ℕ → Bool) → ℕ → ℕ → Bool
 without named q i = named i && not (is q i)
@@ -35,16 +48,7 @@ without named q i = named i && not (is q i)
 pub without-self : (q : ℕ) → without (is q) q ≡ (λ i. false)
 without-self q = fun-ext (λ i. and-not-self (is q i))
 
-pub without-first : (p q : ℕ) → (p ≡ q → ⊥) → without (λ i. is p i || is q i) p ≡ is q
-without-first p q apart = fun-ext (λ i. cases i (is p i) (is q i) refl refl)
-  where
-    cases : (i : ℕ) (a b : Bool) → is p i ≡ a → is q i ≡ b → ((a || b) && not a) ≡ b
-    cases i true true e f = absurd (apart (is-sound p i e ∙ sym (is-sound q i f)))
-    cases i true false e f = refl
-    cases i false true e f = refl
-    cases i false false e f = refl
-
--- a set without controls that are among the named qubits, and a target that is none of them
+-- a set of names without those of P, where the others are not in P
 pub without-controls : (P rest : ℕ → Bool) → ((i : ℕ) → rest i ≡ true → P i ≡ false) → _≡_ {A = ℕ → Bool} (λ i. (P i || rest i) && not (P i)) rest
 without-controls P rest apart = fun-ext (λ i. cases i (P i) (rest i) refl refl)
   where
@@ -53,6 +57,9 @@ without-controls P rest apart = fun-ext (λ i. cases i (P i) (rest i) refl refl)
     cases i true false e f = refl
     cases i false true e f = refl
     cases i false false e f = refl
+
+pub without-first : (p q : ℕ) → (p ≡ q → ⊥) → without (λ i. is p i || is q i) p ≡ is q
+without-first p q apart = without-controls (is p) (is q) (λ i e. ap (is p) (sym (is-sound q i e)) ∙ is-apart p q apart)
 
 -- ---- bits that are exchanged
 
@@ -107,7 +114,8 @@ all-set-agree P named (x ∷ r) [] free e = absurd (true≢false (sym e))
 all-set-agree P named (x ∷ r) (y ∷ c) free e =
     first (P 0) (named 0) x y (free 0) (agree (λ i. named (suc i)) r c) e (all-set-agree (λ i. P (suc i)) (λ i. named (suc i)) r c (λ i. free (suc i)))
   where
-    first : (a b x y : Bool) → (b ≡ true → a ≡ false) → (k : Bool) → ((b || Bool·beq x y) && k) ≡ true → (k ≡ true → all-set (λ i. P (suc i)) r ≡ all-set (λ i. P (suc i)) c)
+    first : (a b x y : Bool) → (b ≡ true → a ≡ false) → (k : Bool) → ((b || Bool·beq x y) && k) ≡ true
+        → (k ≡ true → all-set (λ i. P (suc i)) r ≡ all-set (λ i. P (suc i)) c)
         → ((not a || x) && all-set (λ i. P (suc i)) r) ≡ ((not a || y) && all-set (λ i. P (suc i)) c)
     first a b x y none false h below = absurd (true≢false (sym h ∙ and-false (b || Bool·beq x y)))
     first false b x y none true h below = below refl

@@ -1,9 +1,9 @@
 -- A gate's data: how it acts on its target where its controls are 1, and what that does to a matrix's entries.
 -- Definitions only; that the data are the published matrices' is in proofs/Rules.antt.
 use mathlib.Core.Path.{_≡_}
-use mathlib.Core.Bool.{Bool, true, false, not, cond, _&&_, _||_, Bool·beq}
-use mathlib.Core.List.{[], _∷_}
-use Prim.Native.Nat.{ℕ, zero, suc, min, max}
+use mathlib.Core.Bool.{Bool, true, false, not, cond, Bool·beq}
+use mathlib.Core.List.{[]}
+use Prim.Native.Nat.{ℕ, zero, min, max}
 use lib.ListN.{set}
 use Rattle.algebra.specs.declared.Entry.{Entry}
 use Rattle.algebra.specs.Entry.{𝟘, 𝟙, neg, _⊕_, _⊖_, turned, w8^}

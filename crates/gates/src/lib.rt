@@ -16,8 +16,8 @@ pub enum Operands {
     Masked { least: u32, targets: u32 },
 }
 
-// A gate's data. It names its target last, after its controls; where every control is 1 it acts on the target: it mixes the
-// two entries, or takes the entry at the target's bit, flipped or not, times a power of w8. The powers differ by side for Y.
+// A gate's data. Where every control is 1 it acts: it mixes its target's two entries, or takes the entry with its two targets' bits
+// swapped, or the one at the target's bit, flipped or not, times a power of w8. The powers differ by side for Y.
 pub struct Rule {
     pub operands: Operands,
     pub mixes: bool,

@@ -23,7 +23,7 @@ abbrev pub after-length : List ℕ → Reading ℕ → Report
 after-length bytes (read n next) = rest-report n (drop next bytes)
 after-length bytes (unread why) = bad-length (why .number)
 
--- "It reads at most 32,768 bytes of standard input and judges those", since S-2 57,344: the byte length of list 1 as a number, list 1, then list 2
--- to the end
+-- "It reads at most 32,768 bytes of standard input and judges those: the byte length of list 1 as a number, list 1, then list 2
+-- to the end."; since S-2 "The verdict program now reads 57,344 bytes."
 unfoldable pub input-report : List ℕ → Report
 input-report bytes = after-length bytes (number bytes 0)

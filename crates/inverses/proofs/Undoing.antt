@@ -11,7 +11,7 @@ use lib.Dec.{eqb}
 use Rattle.gates.specs.Gate.{Gate, on, pair, toffoli, fredkin, Meant, one, two, mask-one, mask-two, unknown, meant, inverse}
 use Rattle.gates.specs.Rule.{gate-rule, rule-of, decision, Decided}
 use Rattle.gates.specs.declared.Operands.{Operands}
-use Rattle.gates.specs.declared.Operands.the-variants.{Qubit, Controlled, Masked}
+use Rattle.gates.specs.declared.Operands.the-variants.{Masked}
 use Rattle.gates.specs.declared.Rule.{Rule}
 use Rattle.gates.specs.declared.Decision.{Decision}
 use Rattle.gates.specs.declared.Decision.the-variants.{Known, Unknown}

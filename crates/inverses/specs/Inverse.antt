@@ -39,7 +39,7 @@ put bytes buffer =
     cond (leb (length bytes) (length buffer)) (record { answer = Bytes (length bytes); buffer = over bytes buffer })
     (record { answer = Refused (Call 16); buffer = buffer })
 
--- "Refusals 3 to 10 name list 1 here"; "Any refusal leaves the buffer untouched."
+-- "Refusals 3 to 10 name list 1 here", and so does 17; "Any refusal leaves the buffer untouched."
 abbrev pub inverted-by : List ℕ → Reading Circuit → Filled
 inverted-by buffer (read c next) = put (inverse-bytes c) buffer
 inverted-by buffer (unread why) = record { answer = Refused (at-byte 1 why); buffer = buffer }

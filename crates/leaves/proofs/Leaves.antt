@@ -17,7 +17,8 @@ use Rattle.diagrams.proofs.Tests.{both-true}
 use Rattle.transitions.specs.State.{Mode, mode-of}
 use Rattle.transitions.specs.Source.{SourceValues, source-entry, Refers, Holds-slot}
 use Rattle.transitions.specs.Next.{numbered, is-value, is-leaf-by, is-leaf, entry-of, leaf-entry}
-use Rattle.transitions.proofs.Codes.{ref-of-odd, ref-of-even, mode-turning, mode-adding, mode-subtracting, mode-waiting, mode-swapping, mode-choosing, mode-pair}
+use Rattle.transitions.proofs.Codes.{ref-of-odd, ref-of-even, mode-turning, mode-adding, mode-subtracting, mode-waiting, mode-swapping}
+use Rattle.transitions.proofs.Codes.{mode-choosing, mode-pair}
 
 -- ---- references to values
 

@@ -39,7 +39,8 @@ module _ (rule : Rule) (p : Phases) (P : ℕ → Bool) (F : Bits → Entry) (b :
           (cond (rule .mixes) (mixed q (λ m. F (b ∷ m)) l) (cond (rule .swaps) apart (moved rule p q (λ m. F (b ∷ m)) l))) (F (b ∷ l)))
           (F (b ∷ l))
       by-first true =
-          ap (λ (x : Entry). cond (all-set (λ i. P (suc i)) l) (cond (rule .mixes) (mixed (suc q) F (b ∷ l)) (cond (rule .swaps) apart x)) (F (b ∷ l))) moved-later
+          ap (λ (x : Entry). cond (all-set (λ i. P (suc i)) l) (cond (rule .mixes) (mixed (suc q) F (b ∷ l)) (cond (rule .swaps) apart x)) (F (b ∷ l)))
+          moved-later
       by-first false = refl
 
   -- what the gate makes at its target, by the target's bit; a swap's second target is at q′

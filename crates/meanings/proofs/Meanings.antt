@@ -378,7 +378,8 @@ module _ (plan : Plan) (s : Store Entry) (valid : ValidPlan plan s) (level : ℕ
 
         later : level < plan .stage (plan .second) → swapping-on level seen x y (b ∷ l)
             ≡ cond (not (control plan level) || b) (swapping-on (suc level) seen x′ y′ l) (own b x)
-        later before = swapping-later b l seen x y (cofactor s level b x) (cofactor s level b y) before (reached-cofactor s level b x) (reached-cofactor s level b y)
+        later before =
+            swapping-later b l seen x y (cofactor s level b x) (cofactor s level b y) before (reached-cofactor s level b x) (reached-cofactor s level b y)
 
         swapping-means : (j : ℕ) → j ≤ plan .second → swapping-on (suc level) seen x′ y′ l ≡ meaning plan s (suc level) (on-both (swapping j seen) x′ y′) l
         swapping-means j up-to =

@@ -156,7 +156,8 @@ phases-on true rule = rule .right
 
 -- the product with a gate on either side, by place
 pub product-place : (n : ℕ) (right : Bool) (g : Gate) (P : ℕ → Bool) → Fits n g → Spreads right (controls g) P → (M : Matrix) (l : Bits) → length l ≡ levels n
-    → entries (product-on right n g M) l ≡ acted (gate-rule g) (phases-on right (gate-rule g)) P (level-on right (target g)) (level-on right (second g)) (entries M) l
+    → entries (product-on right n g M) l
+    ≡ acted (gate-rule g) (phases-on right (gate-rule g)) P (level-on right (target g)) (level-on right (second g)) (entries M) l
 product-place n false g P fits spreads M l size =
     product-left n g fits M (rows l) (columns l) (length-halves n l size .0)
     ∙ acted-place (gate-rule g) (gate-rule g .left) M false (controls g) P n (target g) (second g) l spreads size

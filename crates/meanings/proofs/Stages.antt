@@ -2,7 +2,7 @@
 -- Assumes nothing.
 use mathlib.Core.Path.{_≡_, refl, sym, _∙_, ap, ap₂, fun-ext}
 use mathlib.Core.List.{_∷_}
-use mathlib.Core.Bool.{Bool, true, false, not, _&&_, _||_, and-false}
+use mathlib.Core.Bool.{Bool, true, false, not, _&&_, _||_, and-false, or-true}
 use Prim.Native.Nat.{ℕ, zero, suc, _+_, _<_, _≤_}
 use native.Mathlib.Nat.{add-zero}
 use native.Mathlib.Decide.{decLt}
@@ -30,10 +30,6 @@ pub among-one : (k : ℕ) (stage : ℕ → ℕ) (level j : ℕ) → j < k → st
 among-one zero stage level j h e = absurd (omega arith)
 among-one (suc k) stage level j h e = by-order (decLt j k) (λ less. among-one k stage level j less e)
   where
-    or-true : (b : Bool) → (b || true) ≡ true
-    or-true true = refl
-    or-true false = refl
-
     by-order : Dec (j < k) → (j < k → among k stage level ≡ true) → (eqb (stage k) level || among k stage level) ≡ true
     by-order (yes less) earlier = ap (λ (b : Bool). eqb (stage k) level || b) (earlier less) ∙ or-true (eqb (stage k) level)
     by-order (no last) earlier =
@@ -76,13 +72,19 @@ passed-stage plan k level passed here j below = by-order (decLt j k)
     by-order (no last) = let same : j ≡ k = omega arith in omega (arith, ap (plan .stage) same)
 
 module _ (plan : Plan) (s : Store Entry) (valid : ValidPlan plan s) where
-  -- the target's stage is not before one up to it
-  pub target-ahead : (k level : ℕ) → k ≤ plan .target → level < plan .stage k → level < plan .stage (plan .target)
-  target-ahead k level up-to ahead = by-order (decLt k (plan .target))
+  -- a stage is not before one up to it
+  stage-ahead : (k j level : ℕ) → j < plan .stages → k ≤ j → level < plan .stage k → level < plan .stage j
+  stage-ahead k j level below up-to ahead = by-order (decLt k j)
     where
-      by-order : Dec (k < plan .target) → level < plan .stage (plan .target)
-      by-order (yes less) = let rises = valid .stages-ascend k (plan .target) less (valid .has-target) in omega arith
-      by-order (no last) = let same : k ≡ plan .target = omega arith in omega (arith, ap (plan .stage) same)
+      by-order : Dec (k < j) → level < plan .stage j
+      by-order (yes less) = let rises = valid .stages-ascend k j less below in omega arith
+      by-order (no last) = let same : k ≡ j = omega arith in omega (arith, ap (plan .stage) same)
+
+  pub target-ahead : (k level : ℕ) → k ≤ plan .target → level < plan .stage k → level < plan .stage (plan .target)
+  target-ahead k level = stage-ahead k (plan .target) level (valid .has-target)
+
+  pub second-ahead : (k level : ℕ) → k ≤ plan .second → level < plan .stage k → level < plan .stage (plan .second)
+  second-ahead k level = stage-ahead k (plan .second) level (valid .has-second)
 
   -- the target is not after the second
   pub target-up-to : plan .target ≤ plan .second
@@ -91,14 +93,6 @@ module _ (plan : Plan) (s : Store Entry) (valid : ValidPlan plan s) where
       by-swaps : (b : Bool) → plan .swaps ≡ b → plan .target ≤ plan .second
       by-swaps true e = let first = valid .target-first e in omega arith
       by-swaps false e = let same = valid .target-only e in omega arith
-
-  -- nor is the second's stage before one up to it
-  pub second-ahead : (k level : ℕ) → k ≤ plan .second → level < plan .stage k → level < plan .stage (plan .second)
-  second-ahead k level up-to ahead = by-order (decLt k (plan .second))
-    where
-      by-order : Dec (k < plan .second) → level < plan .stage (plan .second)
-      by-order (yes less) = let rises = valid .stages-ascend k (plan .second) less (valid .has-second) in omega arith
-      by-order (no last) = let same : k ≡ plan .second = omega arith in omega (arith, ap (plan .stage) same)
 
   pub phase-small : (b : Bool) → phase (plan .phases) b < 8
   phase-small b = phase-below (plan .phases) b refl (valid .phase-zero) (valid .phase-one)
@@ -120,10 +114,6 @@ module _ (plan : Plan) (s : Store Entry) (valid : ValidPlan plan s) where
   control-second level here =
       no-target level (ap (λ (b : Bool). eqb level (plan .stage (plan .target)) || b) (eq-eqb level (plan .stage (plan .second)) (sym here))
       ∙ or-true (eqb level (plan .stage (plan .target))))
-    where
-      or-true : (b : Bool) → (b || true) ≡ true
-      or-true true = refl
-      or-true false = refl
 
   -- stages that are not one are at different levels
   stages-apart : (j k : ℕ) → j < plan .stages → k < plan .stages → (j ≡ k → ⊥) → plan .stage k ≡ plan .stage j → ⊥

@@ -1,7 +1,7 @@
 -- The start of a step's walk: with a plan for a gate, from the root of a matrix's diagram, it makes the diagram of the product.
 -- Assumes nothing.
-use mathlib.Core.Path.{_≡_, refl, sym, _∙_, ap, ap₂, subst, fun-ext, _≡⟨_⟩_, _∎}
-use mathlib.Core.Bool.{Bool, true, false, not, cond, _&&_, _||_, true≢false}
+use mathlib.Core.Path.{_≡_, refl, sym, _∙_, ap, ap₂, fun-ext, _≡⟨_⟩_, _∎}
+use mathlib.Core.Bool.{Bool, true, false, not, cond, _&&_, _||_, or-comm, true≢false}
 use Prim.Native.Nat.{ℕ, zero, _+_, _-_, _*_, _<_, _≤_, zero-le, min, max}
 use native.Mathlib.Decide.{decLt}
 use native.Mathlib.Nat.{zero-add, sub-zero}
@@ -15,10 +15,11 @@ use Rattle.algebra.specs.Matrix.{Bits, Matrix, everywhere}
 use Rattle.algebra.specs.Width.{entryInWidth}
 use Rattle.gates.specs.declared.Phases.{Phases}
 use Rattle.gates.specs.declared.Rule.{Rule}
-use Rattle.gates.specs.Gate.{Kind, X, Y, Z, H, S, S†, T, T†, Pair, CNOT, CZ, Gate, on, pair, toffoli, fredkin}
+use Rattle.gates.specs.Gate.{X, Y, Z, H, S, S†, T, T†, CNOT, CZ, Gate, on, pair, toffoli, fredkin}
 use Rattle.gates.specs.Gate.{is, bit, in-mask, all-set, exchanged, names, Fits}
-use Rattle.gates.specs.Rule.{phases, phase, kind-rule, pair-rule, gate-rule, controls, target, second, mixed, moved, acted}
-use Rattle.gates.proofs.Naming.{is-refl, is-sound}
+use Rattle.gates.specs.Rule.{phases, phase, gate-rule, controls, target, second, mixed, moved, acted}
+use Rattle.gates.proofs.Naming.{is-refl, is-sound, is-apart}
+use Rattle.gates.proofs.LocalRules.{kind-alone, pair-alone}
 use Rattle.diagrams.specs.Diagram.{Ref, code, Store, reached, ref-of}
 use Rattle.diagrams.specs.Diagram.{levels, entries, same-entry, empty, reduce, diagram}
 use Rattle.diagrams.proofs.Again.{reduce-ext}
@@ -133,20 +134,9 @@ kind-mixes (pair CZ p q) e i named = absurd (true≢false (sym e))
 kind-mixes (toffoli mask q) e i named = absurd (true≢false (sym e))
 kind-mixes (fredkin mask p q) e i named = absurd (true≢false (sym e))
 
-kind-swaps : (k : Kind) → kind-rule k .swaps ≡ true → ⊥
-kind-swaps X e = true≢false (sym e)
-kind-swaps Y e = true≢false (sym e)
-kind-swaps Z e = true≢false (sym e)
-kind-swaps H e = true≢false (sym e)
-kind-swaps S e = true≢false (sym e)
-kind-swaps S† e = true≢false (sym e)
-kind-swaps T e = true≢false (sym e)
-kind-swaps T† e = true≢false (sym e)
-
 swaps-two : (n : ℕ) (g : Gate) → Fits n g → gate-rule g .swaps ≡ true → target g < second g
-swaps-two n (on k q) fits e = absurd (kind-swaps k e)
-swaps-two n (pair CNOT p q) fits e = absurd (true≢false (sym e))
-swaps-two n (pair CZ p q) fits e = absurd (true≢false (sym e))
+swaps-two n (on k q) fits e = absurd (true≢false (sym e ∙ kind-alone k))
+swaps-two n (pair k p q) fits e = absurd (true≢false (sym e ∙ pair-alone k))
 swaps-two n (toffoli mask q) fits e = absurd (true≢false (sym e))
 swaps-two n (fredkin mask p q) fits e = by-order (decLt p q)
   where
@@ -190,26 +180,23 @@ sides-apart false p q e = let a = levels-double p in let b = levels-double q in 
 sides-apart true p q e = let a = levels-double p in let b = levels-double q in omega arith
 
 -- what a gate names and is no target is a control
+but-target : (P : ℕ → Bool) (q i : ℕ) → P q ≡ false → ((P i || is q i) && not (is q i || is q i)) ≡ P i
+but-target P q i free = cases (P i) (is q i) refl refl
+  where
+    cases : (a b : Bool) → P i ≡ a → is q i ≡ b → ((a || b) && not (b || b)) ≡ a
+    cases true true e f = absurd (true≢false (sym e ∙ ap P (sym (is-sound q i f)) ∙ free))
+    cases true false e f = refl
+    cases false true e f = refl
+    cases false false e f = refl
+
 named-controls : (n : ℕ) (g : Gate) → Fits n g → (i : ℕ) → (names g i && not (is (target g) i || is (second g) i)) ≡ controls g i
 named-controls n (on k q) fits i = none (is q i)
   where
     none : (a : Bool) → (a && not (a || a)) ≡ false
     none true = refl
     none false = refl
-named-controls n (pair k p q) fits i = cases (is p i) (is q i) refl refl
-  where
-    cases : (a b : Bool) → is p i ≡ a → is q i ≡ b → ((a || b) && not (b || b)) ≡ a
-    cases true true e f = absurd (fits .2 (is-sound p i e ∙ sym (is-sound q i f)))
-    cases true false e f = refl
-    cases false true e f = refl
-    cases false false e f = refl
-named-controls n (toffoli mask q) fits i = cases (in-mask mask i) (is q i) refl refl
-  where
-    cases : (a b : Bool) → in-mask mask i ≡ a → is q i ≡ b → ((a || b) && not (b || b)) ≡ a
-    cases true true e f = absurd (true≢false (sym e ∙ ap (in-mask mask) (sym (is-sound q i f)) ∙ fits .2))
-    cases true false e f = refl
-    cases false true e f = refl
-    cases false false e f = refl
+named-controls n (pair k p q) fits i = but-target (is p) q i (is-apart p q (fits .2))
+named-controls n (toffoli mask q) fits i = but-target (in-mask mask) q i (fits .2)
 named-controls n (fredkin mask p q) fits i = by-order (decLt p q)
   where
     cases : (a b c : Bool) → in-mask mask i ≡ a → is p i ≡ b → is q i ≡ c → ((a || (b || c)) && not (b || c)) ≡ a
@@ -220,13 +207,8 @@ named-controls n (fredkin mask p q) fits i = by-order (decLt p q)
     cases false false true e f h = refl
     cases false false false e f h = refl
 
-    or-comm : (a b : Bool) → (a || b) ≡ (b || a)
-    or-comm true true = refl
-    or-comm true false = refl
-    or-comm false true = refl
-    or-comm false false = refl
-
-    in-order : (is p i || is q i) ≡ (is (min p q) i || is (max p q) i) → (names (fredkin mask p q) i && not (is (min p q) i || is (max p q) i)) ≡ in-mask mask i
+    in-order : (is p i || is q i) ≡ (is (min p q) i || is (max p q) i)
+        → (names (fredkin mask p q) i && not (is (min p q) i || is (max p q) i)) ≡ in-mask mask i
     in-order e = ap (λ (b : Bool). names (fredkin mask p q) i && not b) (sym e) ∙ cases (in-mask mask i) (is p i) (is q i) refl refl refl
 
     by-order : Dec (p < q) → (names (fredkin mask p q) i && not (is (min p q) i || is (max p q) i)) ≡ in-mask mask i
@@ -396,7 +378,8 @@ module _ (n : ℕ) (right : Bool) (g : Gate) (M : Matrix) (plan : Plan) (fits : 
       (sub-zero (plan .stage (plan .target)) ∙ for .target-at ∙ side-level-is right (target g))
       (sub-zero (plan .stage (plan .second)) ∙ for .second-at ∙ side-level-is right (second g)) ⟩
       act t t′ (reached 𝟘 source 0 root) l
-      ≡⟨ acted-alike (plan-rule plan) rule (plan .phases) side (control plan) t t′ (reached 𝟘 source 0 root) l (for .mixes-are) (for .flips-are) (for .swaps-are)
+      ≡⟨ acted-alike (plan-rule plan) rule (plan .phases) side (control plan) t t′ (reached 𝟘 source 0 root) l
+      (for .mixes-are) (for .flips-are) (for .swaps-are)
       (λ moves. for .phases-are ∙ side-phases-is right (rule .mixes) (rule .left) (rule .right) moves ∙ on-side right rule) ⟩
       acted rule side (control plan) t t′ (reached 𝟘 source 0 root) l
       ≡⟨ acted-ext rule side (control plan) t t′ (reached 𝟘 source 0 root) (entries M) l (λ m e. diagram-reduced n M .gives m (e ∙ size)) ⟩

@@ -7,7 +7,7 @@ use Prim.Native.Nat.{ℕ, _+_, _*_, _^_, _<_, max}
 use native.Mathlib.Omega.{arith}
 use lib.ListN.{length, getD}
 use Rattle.gates.specs.Gate.{Gate}
-use Rattle.gates.specs.Rule.{gate-rule, target}
+use Rattle.gates.specs.Rule.{gate-rule}
 use Rattle.diagrams.specs.Diagram.{levels}
 use Rattle.stores.specs.Columns.{zeroed}
 use Rattle.diagrams.proofs.Places.{levels-double}

@@ -1,20 +1,19 @@
 -- The loop that writes the levels of a mask's qubits: what is left of them, and one bit more.
 -- Assumes nothing.
-use mathlib.Core.Bool.{Bool, true, false, cond}
 use mathlib.Core.List.{List, [], _∷_}
 use mathlib.Core.Logic.{_⊎_, inl, inr}
 use mathlib.Core.Path.{_≡_, refl, sym, _∙_, ap, subst₂}
 use Prim.Native.Nat.{ℕ, zero, suc, _+_, _*_, _/_, _%_, _^_, _<_, _≤_}
-use native.Mathlib.Nat.{pow-suc, one-mul, mod-eq-of-lt, lt-of-le-of-lt}
+use native.Mathlib.Nat.{one-mul, mod-eq-of-lt, lt-of-le-of-lt}
 use lib.Dec.{lit<}
 use lib.Pow.{pow-pos, pow-mono}
 use native.Mathlib.Numerals.{add-one}
 use native.Mathlib.Omega.{arith}
 use lib.Count.{ones, ones-le}
-use lib.Dec.{eqb}
 use lib.ListN.{length, set}
 use lib.Seq.{sets}
 use borrow.Author.Tests.{eq-eqb, ne-eqb}
+use Rattle.gates.proofs.Masks.{halved}
 use Rattle.plans.specs.Prepare.{levels-from, with-stages}
 use Rattle.plans.proofs.Staging.{length-levels}
 
@@ -30,9 +29,6 @@ none-left : (fuel level : ℕ) → levels-from fuel level 0 ≡ []
 unfolding levels-from
 none-left zero level = refl
 none-left (suc fuel) level = none-left fuel (level + 2)
-
-halved : (k mask : ℕ) → mask < 2 ^ suc k → mask / 2 < 2 ^ k
-halved k mask h = let two = pow-suc 2 k in omega (arith, h, two)
 
 pub writing-start : (named side : ℕ) (entry : List ℕ) → named < 65536 → side < 2 → Writing (levels-from 16 side named) entry entry named side 0
 writing-start named side entry small a-side = record {

@@ -1,10 +1,9 @@
 -- The levels of the qubits that a mask names: as many as its ones, ascending, and each named qubit's stands where as many are as are named below it.
 -- Assumes nothing.
-use mathlib.Core.Bool.{Bool, true, false, cond, _||_, true≢false}
-use mathlib.Core.Logic.{_⊎_, inl, inr}
-use mathlib.Core.List.{List, [], _∷_}
-use mathlib.Core.Path.{_≡_, refl, sym, _∙_, ap, ap₂, subst}
-use Prim.Native.Nat.{ℕ, zero, suc, _+_, _-_, _*_, _/_, _%_, _^_, _<_, _≤_}
+use mathlib.Core.Bool.{Bool, true, false, cond}
+use mathlib.Core.List.{[], _∷_}
+use mathlib.Core.Path.{_≡_, refl, sym, _∙_, ap, ap₂}
+use Prim.Native.Nat.{ℕ, zero, suc, _+_, _*_, _/_, _%_, _^_, _<_, _≤_}
 use native.Mathlib.Nat.{pow-suc, mod-one, zero-add}
 use lib.Arith.{mod-mul}
 use lib.Pow.{pow-pos}
@@ -12,21 +11,9 @@ use native.Mathlib.Omega.{arith}
 use lib.Count.{ones, ones-step}
 use lib.Dec.{eqb}
 use lib.ListN.{length, getD}
-use borrow.Author.Tests.{eqb-true, eqb-false, eq-eqb, ne-eqb}
-use Rattle.gates.specs.Gate.{is, in-mask}
-use Rattle.gates.proofs.Masks.{in-mask-first, in-mask-later, mask-below}
+use Rattle.gates.specs.Gate.{in-mask}
+use Rattle.gates.proofs.Masks.{in-mask-first, in-mask-later, halved, bit-is, mask-below}
 use Rattle.plans.specs.Prepare.{levels-from}
-
-halved : (k mask : ℕ) → mask < 2 ^ suc k → mask / 2 < 2 ^ k
-halved k mask h = let two = pow-suc 2 k in omega (arith, h, two)
-
--- a bit of a mask, as a number
-bit-is : (mask : ℕ) (b : Bool) → eqb (mask % 2) 1 ≡ b → mask % 2 ≡ cond b 1 0
-bit-is mask true e = eqb-true _ _ e
-bit-is mask false e = none (eqb-false _ _ e)
-  where
-    none : (mask % 2 ≡ 1 → ⊥) → mask % 2 ≡ 0
-    none other = omega arith
 
 -- ---- as many as ones
 
@@ -131,43 +118,3 @@ levels-at (suc fuel) level mask (suc q) h e =
         let index : mask % 2 + ones (mask / 2 % 2 ^ q) ≡ suc (ones (mask / 2 % 2 ^ q)) = omega (arith, one) in
         rw index (omega (arith, below .0), omega (arith, below .1))
     by-bit false e below = let none = bit-is mask false e in rw (none, zero-add (ones (mask / 2 % 2 ^ q))) (below .0, omega (arith, below .1))
-
--- ---- a qubit more
-
--- with a qubit that it does not name a mask names that one too
-pub in-mask-add : (mask q i : ℕ) → in-mask mask q ≡ false → in-mask (mask + 2 ^ q) i ≡ (in-mask mask i || is q i)
-in-mask-add mask zero zero e =
-    in-mask-first (mask + 1) ∙ eq-eqb _ _ (one (eqb-false _ _ (sym (in-mask-first mask) ∙ e))) ∙ sym (or-true (in-mask mask 0))
-  where
-    one : (mask % 2 ≡ 1 → ⊥) → (mask + 1) % 2 ≡ 1
-    one other = omega arith
-
-    or-true : (b : Bool) → (b || true) ≡ true
-    or-true true = refl
-    or-true false = refl
-in-mask-add mask zero (suc i) e =
-    in-mask-later (mask + 1) i ∙ ap (λ (m : ℕ). in-mask m i) (same (eqb-false _ _ (sym (in-mask-first mask) ∙ e))) ∙ sym (in-mask-later mask i)
-    ∙ sym (or-false (in-mask mask (suc i)))
-  where
-    same : (mask % 2 ≡ 1 → ⊥) → (mask + 1) / 2 ≡ mask / 2
-    same other = omega arith
-
-    or-false : (b : Bool) → (b || false) ≡ b
-    or-false true = refl
-    or-false false = refl
-in-mask-add mask (suc q) zero e =
-    in-mask-first (mask + 2 ^ suc q) ∙ ap (λ (m : ℕ). eqb m 1) even ∙ sym (in-mask-first mask)
-    ∙ sym (or-false (in-mask mask 0))
-  where
-    even : (mask + 2 ^ suc q) % 2 ≡ mask % 2
-    even = let two = pow-suc 2 q in omega (arith, two)
-
-    or-false : (b : Bool) → (b || false) ≡ b
-    or-false true = refl
-    or-false false = refl
-in-mask-add mask (suc q) (suc i) e =
-    in-mask-later (mask + 2 ^ suc q) i ∙ ap (λ (m : ℕ). in-mask m i) half
-    ∙ in-mask-add (mask / 2) q i (sym (in-mask-later mask q) ∙ e) ∙ ap (λ (b : Bool). b || is q i) (sym (in-mask-later mask i))
-  where
-    half : (mask + 2 ^ suc q) / 2 ≡ mask / 2 + 2 ^ q
-    half = let two = pow-suc 2 q in omega (arith, two)

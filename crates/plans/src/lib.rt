@@ -4,6 +4,8 @@ use gates::Rule;
 use transitions::ACTION;
 use transitions::FLIPS;
 use transitions::LEVELS;
+use transitions::MIXES;
+use transitions::MOVES;
 use transitions::NODE_HEADS;
 use transitions::PHASE_ONE;
 use transitions::PHASE_ZERO;
@@ -11,6 +13,7 @@ use transitions::SECOND;
 use transitions::SLOTS;
 use transitions::SPAN;
 use transitions::STAGES;
+use transitions::SWAPS;
 use transitions::TARGET;
 use transitions::VALUE_HEADS;
 use transitions::WIDTH;
@@ -79,17 +82,17 @@ fn phases_of(rule: Rule, side: u32) -> Phases
     rule.left
 }
 
-// 0 if the gate moves an entry, 1 if it mixes two, 2 if it swaps its targets.
+// What the gate does at its target.
 fn action_number(rule: Rule) -> u32
     ensures { λ r. ⌜ r ≡ action-number rule ⌝ }
 {
     if rule.mixes {
-        return 1;
+        return MIXES;
     }
     if rule.swaps {
-        return 2;
+        return SWAPS;
     }
-    0
+    MOVES
 }
 
 fn write_action(rule: Rule, phases: Phases, plan: &mut [u32; 32])

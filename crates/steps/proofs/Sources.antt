@@ -13,7 +13,6 @@ use borrow.Author.Tests.{lt-ltb, le-ltb, leb-true}
 use Rattle.algebra.specs.declared.Entry.{Entry}
 use Rattle.algebra.specs.Entry.{𝟘}
 use Rattle.algebra.specs.Matrix.{Matrix}
-use Rattle.gates.specs.Gate.{Gate}
 use Rattle.gates.proofs.LocalRules.{target-fits}
 use Rattle.diagrams.specs.Diagram.{code, Store, holding, diagram, slot, same-entry}
 use Rattle.stores.specs.Columns.{Columns, columns, entries-of, zero-ref, Published, ValueColumns, zeroed}

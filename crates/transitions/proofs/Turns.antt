@@ -2,7 +2,7 @@
 -- Assumes nothing.
 use mathlib.Core.Path.{_≡_, refl, sym, _∙_, ap, ap₂}
 use mathlib.Core.Bool.{Bool, true, false, cond, not, Bool·beq}
-use Prim.Native.Nat.{ℕ, suc, _+_, _-_, _*_, _<_, _≤_, min}
+use Prim.Native.Nat.{ℕ, suc, _+_, _-_, _<_, _≤_, min}
 use native.Mathlib.Numerals.{add-one}
 use native.Mathlib.Omega.{arith}
 use lib.Dec.{eqb}
@@ -14,7 +14,7 @@ use Rattle.diagrams.specs.Diagram.{Store, ref-of}
 use Rattle.transitions.specs.declared.State.{State}
 use Rattle.transitions.specs.Plan.{Plan, plan-rule}
 use Rattle.transitions.specs.State.{level-of, Mode, turning, waiting, swapping, choosing, mode-of, top-by, top}
-use Rattle.transitions.specs.Next.{mode-code, numbered, on-both, cofactor, paired, chosen, at-target, next-by, next-state}
+use Rattle.transitions.specs.Next.{mode-code, numbered, on-both, cofactor, paired, chosen, at-target, at-second, next-by, next-state}
 use Rattle.transitions.proofs.Codes.{mode-pair}
 use Rattle.transitions.proofs.Slots.{bit-cases}
 
@@ -51,17 +51,16 @@ module _ (plan : Plan) (s : Store Entry) (level k x : ℕ) where
       ∙ ap₂ (paired plan (cond (eqb bit 1) 9 8)) low-is high-is
       ∙ cond-true (plan .mixes) _ _ mixes
 
-  -- the number of a swap's mode, by the bit of its first target
   pub at-target-swaps : (bit own other : ℕ) → bit < 2 → plan .mixes ≡ false → plan .swaps ≡ true → own ≡ cofactor s level (eqb bit 1) x
-      → other ≡ cofactor s level (eqb (1 - bit) 1) x → numbered own other (32 + 2 * k + bit) ≡ at-target plan s level (eqb bit 1) k x
+      → other ≡ cofactor s level (eqb (1 - bit) 1) x → on-both (swapping k (eqb bit 1)) own other ≡ at-target plan s level (eqb bit 1) k x
   unfolding at-target
   at-target-swaps bit own other a-bit moves swaps own-is other-is =
-      ap₂ (λ (o w : ℕ). numbered o w (32 + 2 * k + bit)) own-is (other-is ∙ ap (λ (b : Bool). cofactor s level b x) (flipped-bit bit a-bit .1))
-      ∙ ap (λ (m : ℕ). numbered (cofactor s level (eqb bit 1) x) (cofactor s level (not (eqb bit 1)) x) (32 + 2 * k + m)) (bit-number bit a-bit)
+      ap₂ (on-both (swapping k (eqb bit 1))) own-is (other-is ∙ ap (λ (b : Bool). cofactor s level b x) (flipped-bit bit a-bit .1))
       ∙ cond-true (plan .swaps) _ _ swaps ∙ cond-false (plan .mixes) _ _ moves
 
-  pub at-target-moves : (b : Bool) (from e own other : ℕ) → plan .mixes ≡ false → plan .swaps ≡ false → eqb from 1 ≡ flipped (plan-rule plan) b → e ≡ phase (plan .phases) b
-      → own ≡ cofactor s level b x → other ≡ cofactor s level (eqb from 1) x → chosen plan k e own other ≡ at-target plan s level b k x
+  pub at-target-moves : (b : Bool) (from e own other : ℕ) → plan .mixes ≡ false → plan .swaps ≡ false → eqb from 1 ≡ flipped (plan-rule plan) b
+      → e ≡ phase (plan .phases) b → own ≡ cofactor s level b x → other ≡ cofactor s level (eqb from 1) x
+      → chosen plan k e own other ≡ at-target plan s level b k x
   unfolding at-target
   at-target-moves b from e own other moves keeps from-is e-is own-is other-is =
       ap (λ (power : ℕ). chosen plan k power own other) e-is
@@ -79,11 +78,10 @@ module _ (plan : Plan) (s : Store Entry) (level k x : ℕ) (b : Bool) where
   waiting-target here target = rw (eq-eqb _ _ here, eq-eqb _ _ target, add-one)
 
   pub waiting-set : (own : ℕ) → plan .stage k ≡ level → (plan .target ≡ k → ⊥) → b ≡ true → own ≡ cofactor s level b x
-      → numbered own own (17 + k) ≡ next-by plan s level b (waiting k) x x
+      → numbered own own (16 + (k + 1)) ≡ next-by plan s level b (waiting k) x x
   waiting-set own here control set own-is =
-      let on : 17 + k ≡ 16 + suc k = omega arith in
-      rw (eq-eqb _ _ here, ne-eqb _ _ control)
-      (ap₂ (λ (o m : ℕ). numbered o o m) own-is (on ∙ ap mode-code (cond-true b (waiting (suc k)) (turning 0) set)))
+      rw (eq-eqb _ _ here, ne-eqb _ _ control, add-one)
+      (ap₂ (λ (o m : ℕ). numbered o o m) own-is (ap mode-code (cond-true b (waiting (suc k)) (turning 0) set)))
 
   pub waiting-clear : (own : ℕ) → plan .stage k ≡ level → (plan .target ≡ k → ⊥) → b ≡ false → own ≡ cofactor s level b x
       → numbered own own 0 ≡ next-by plan s level b (waiting k) x x
@@ -111,52 +109,50 @@ module _ (plan : Plan) (s : Store Entry) (level k e x y : ℕ) (b : Bool) (own o
   pub choosing-passed : (plan .stage k ≡ level → ⊥) → chosen plan k e own other ≡ next-by plan s level b (choosing k e) x y
   choosing-passed elsewhere = rw (ne-eqb _ _ elsewhere) (ap₂ (chosen plan k e) own-is other-is)
 
--- past a swap's first target
-module _ (plan : Plan) (s : Store Entry) (level k x y bit seen : ℕ) (a-bit : bit < 2) (a-seen : seen < 2) (own : ℕ)
-    (own-is : own ≡ cofactor s level (eqb bit 1) x) where
-  abbrev after-swap : State
-  after-swap = next-by plan s level (eqb bit 1) (swapping k (eqb seen 1)) x y
-
+-- at a swap's second target
+module _ (plan : Plan) (s : Store Entry) (level k x y bit seen own : ℕ) (own-is : own ≡ cofactor s level (eqb bit 1) x) where
   beq-same : (b : Bool) → Bool·beq b b ≡ true
   beq-same true = refl
   beq-same false = refl
 
-  beq-apart : (bit ≡ seen → ⊥) → Bool·beq (eqb bit 1) (eqb seen 1) ≡ false
-  beq-apart other =
+  pub second-alike : bit ≡ seen → numbered own own 0 ≡ at-second plan s level (eqb bit 1) k (eqb seen 1) x y
+  second-alike alike =
+      ap (λ (o : ℕ). numbered o o 0) own-is
+      ∙ cond-true (Bool·beq (eqb bit 1) (eqb seen 1)) _ _ (ap (λ (m : ℕ). Bool·beq (eqb bit 1) (eqb m 1)) (sym alike) ∙ beq-same (eqb bit 1))
+
+  beq-apart : bit < 2 → seen < 2 → (bit ≡ seen → ⊥) → Bool·beq (eqb bit 1) (eqb seen 1) ≡ false
+  beq-apart a-bit a-seen other =
       bit-cases (λ (b : ℕ). (b ≡ seen → ⊥) → Bool·beq (eqb b 1) (eqb seen 1) ≡ false)
       (bit-cases (λ (c : ℕ). (0 ≡ c → ⊥) → Bool·beq false (eqb c 1) ≡ false) (λ o. absurd (o refl)) (λ o. refl) seen a-seen)
       (bit-cases (λ (c : ℕ). (1 ≡ c → ⊥) → Bool·beq true (eqb c 1) ≡ false) (λ o. refl) (λ o. absurd (o refl)) seen a-seen) bit a-bit other
 
-  pub swapping-alike : plan .stage k ≡ level → plan .second ≡ k → bit ≡ seen → numbered own own 0 ≡ after-swap
-  swapping-alike here second alike =
-      rw (eq-eqb _ _ here, eq-eqb _ _ second)
-      (ap (λ (o : ℕ). numbered o o 0) own-is ∙ cond-true (Bool·beq (eqb bit 1) (eqb seen 1)) _ _
-      (ap (λ (m : ℕ). Bool·beq (eqb bit 1) (eqb m 1)) (sym alike) ∙ beq-same (eqb bit 1)))
+  pub second-apart : (other : ℕ) → bit < 2 → seen < 2 → (bit ≡ seen → ⊥) → other ≡ cofactor s level (eqb seen 1) y
+      → chosen plan k 0 own other ≡ at-second plan s level (eqb bit 1) k (eqb seen 1) x y
+  second-apart other a-bit a-seen apart other-is =
+      ap₂ (chosen plan k 0) own-is other-is ∙ cond-false (Bool·beq (eqb bit 1) (eqb seen 1)) _ _ (beq-apart a-bit a-seen apart)
 
-  pub swapping-second : (other : ℕ) → plan .stage k ≡ level → plan .second ≡ k → (bit ≡ seen → ⊥) → other ≡ cofactor s level (eqb seen 1) y
-      → chosen plan (k + 1) 0 own other ≡ after-swap
-  swapping-second other here second apart other-is =
-      rw (eq-eqb _ _ here, eq-eqb _ _ second, add-one)
-      (ap₂ (chosen plan (suc k) 0) own-is other-is ∙ cond-false (Bool·beq (eqb bit 1) (eqb seen 1)) _ _ (beq-apart apart))
+-- between a swap's targets
+module _ (plan : Plan) (s : Store Entry) (level k x y bit : ℕ) (seen : Bool) where
+  abbrev after-swap : State
+  after-swap = next-by plan s level (eqb bit 1) (swapping k seen) x y
 
-  pub swapping-clear : plan .stage k ≡ level → (plan .second ≡ k → ⊥) → bit ≡ 0 → numbered own own 0 ≡ after-swap
-  swapping-clear here control clear =
+  pub swapping-second : plan .stage k ≡ level → plan .second ≡ k → at-second plan s level (eqb bit 1) (k + 1) seen x y ≡ after-swap
+  swapping-second here second = rw (eq-eqb _ _ here, eq-eqb _ _ second, add-one)
+
+  pub swapping-clear : (own : ℕ) → own ≡ cofactor s level (eqb bit 1) x → plan .stage k ≡ level → (plan .second ≡ k → ⊥) → bit ≡ 0
+      → numbered own own 0 ≡ after-swap
+  swapping-clear own own-is here control clear =
       rw (eq-eqb _ _ here, ne-eqb _ _ control) (ap (λ (o : ℕ). numbered o o 0) own-is ∙ cond-false (eqb bit 1) _ _ (bit-clear bit clear))
 
-  module _ (other : ℕ) (other-is : other ≡ cofactor s level (eqb bit 1) y) where
-    pub swapping-set : plan .stage k ≡ level → (plan .second ≡ k → ⊥) → (bit ≡ 0 → ⊥) → numbered own other (34 + 2 * k + seen) ≡ after-swap
-    swapping-set here control set =
-        let on : 34 + 2 * k + seen ≡ 32 + 2 * suc k + seen = omega arith in
-        rw (eq-eqb _ _ here, ne-eqb _ _ control)
-        (ap₂ (λ (o w : ℕ). numbered o w (34 + 2 * k + seen)) own-is other-is
-        ∙ ap (numbered (cofactor s level (eqb bit 1) x) (cofactor s level (eqb bit 1) y)) (on ∙ ap (λ (m : ℕ). 32 + 2 * suc k + m) (bit-number seen a-seen))
-        ∙ cond-true (eqb bit 1) _ _ (bit-set bit a-bit set))
+  module _ (own other : ℕ) (own-is : own ≡ cofactor s level (eqb bit 1) x) (other-is : other ≡ cofactor s level (eqb bit 1) y) where
+    pub swapping-set : bit < 2 → plan .stage k ≡ level → (plan .second ≡ k → ⊥) → (bit ≡ 0 → ⊥)
+        → on-both (swapping (k + 1) seen) own other ≡ after-swap
+    swapping-set a-bit here control set =
+        rw (eq-eqb _ _ here, ne-eqb _ _ control, add-one)
+        (ap₂ (on-both (swapping (suc k) seen)) own-is other-is ∙ cond-true (eqb bit 1) _ _ (bit-set bit a-bit set))
 
-    pub swapping-passed : (plan .stage k ≡ level → ⊥) → numbered own other (32 + 2 * k + seen) ≡ after-swap
-    swapping-passed elsewhere =
-        rw (ne-eqb _ _ elsewhere)
-        (ap₂ (λ (o w : ℕ). numbered o w (32 + 2 * k + seen)) own-is other-is
-        ∙ ap (λ (m : ℕ). numbered (cofactor s level (eqb bit 1) x) (cofactor s level (eqb bit 1) y) (32 + 2 * k + m)) (bit-number seen a-seen))
+    pub swapping-passed : (plan .stage k ≡ level → ⊥) → on-both (swapping k seen) own other ≡ after-swap
+    swapping-passed elsewhere = rw (ne-eqb _ _ elsewhere) (ap₂ (on-both (swapping k seen)) own-is other-is)
 
 -- ---- two references
 

@@ -63,6 +63,13 @@ at-target plan s level b k x = cond
     (on-both (swapping k b) (cofactor s level b x) (cofactor s level (not b) x))
     (chosen plan k (phase (plan .phases) b) (cofactor s level b x) (cofactor s level (flipped (plan-rule plan) b) x)))
 
+-- at the second target of a swap, after a first whose bit was `seen`: where the bits are alike there is nothing to exchange
+abbrev pub at-second : Plan → Store Entry → ℕ → Bool → ℕ → Bool → ℕ → ℕ → State
+at-second plan s level b k seen x y = cond
+    (Bool·beq b seen)
+    (on-one (turning 0) (cofactor s level b x))
+    (chosen plan k 0 (cofactor s level b x) (cofactor s level seen y))
+
 abbrev pub next-by : Plan → Store Entry → ℕ → Bool → Mode → ℕ → ℕ → State
 next-by plan s level b (turning e) x y = on-one (turning e) (cofactor s level b x)
 next-by plan s level b adding x y = paired plan 8 (cofactor s level b x) (cofactor s level b y)
@@ -73,8 +80,7 @@ next-by plan s level b (waiting k) x y = cond
     (on-one (waiting k) (cofactor s level b x))
 next-by plan s level b (swapping k seen) x y = cond
     (eqb (plan .stage k) level)
-    (cond (eqb (plan .second) k)
-    (cond (Bool·beq b seen) (on-one (turning 0) (cofactor s level b x)) (chosen plan (suc k) 0 (cofactor s level b x) (cofactor s level seen y)))
+    (cond (eqb (plan .second) k) (at-second plan s level b (suc k) seen x y)
     (cond b (on-both (swapping (suc k) seen) (cofactor s level b x) (cofactor s level b y)) (on-one (turning 0) (cofactor s level b x))))
     (on-both (swapping k seen) (cofactor s level b x) (cofactor s level b y))
 next-by plan s level b (choosing k e) x y = cond

@@ -8,12 +8,12 @@ ghost use Rattle.diagrams.specs.Diagram.{ref-of};
 ghost use Rattle.transitions.specs.Plan.{plan-of, plan-rule};
 ghost use Rattle.transitions.specs.State.{level-of, top, waiting, swapping, choosing};
 ghost use Rattle.transitions.specs.Source.{Readable, Reading, Reading-both};
-ghost use Rattle.transitions.specs.Next.{numbered, cofactor, paired, chosen, at-target, next-by, next-state};
+ghost use Rattle.transitions.specs.Next.{numbered, on-both, cofactor, paired, chosen, at-target, at-second, next-by, next-state};
 ghost use Rattle.transitions.specs.Valid.{Usable, Targeting};
 
 // The step's plan, as numbers: the levels at which the gate asks, lowest first (its controls and its targets, sixteen at most), and
-// then which of them is the second target's, how many there are, which is the target's, what the gate does there (0 moves an entry, 1
-// mixes two, 2 swaps the targets), the source's zero, the sizes of the tables, the width and the number of levels.
+// then which of them is the second target's, how many there are, which is the target's, what the gate does there, the source's zero,
+// the sizes of the tables, the width and the number of levels.
 pub const SECOND: usize = 16;
 
 pub const STAGES: usize = 17;
@@ -41,6 +41,23 @@ pub const WIDTH: usize = 27;
 pub const LEVELS: usize = 28;
 
 pub const SPAN: usize = 29;
+
+// What a gate does at its target: it takes one entry, or mixes two, or swaps its two targets.
+pub const MOVES: u32 = 0;
+
+pub const MIXES: u32 = 1;
+
+pub const SWAPS: u32 = 2;
+
+// The modes of a state by their numbers. Below 8 it is x times that power of w8, then x + y and x − y. From the others on the number has
+// the stage that the gate has come to: still to act, between a swap's targets, or past its target.
+const ADDING: u32 = 8;
+
+const WAITING: u32 = 16;
+
+const SWAPPING: u32 = 32;
+
+const CHOOSING: u32 = 64;
 
 // Where the walk stands in the source: one reference or two, and what is made of them.
 pub struct State {
@@ -76,20 +93,20 @@ pub fn asked(src: &[&[u32]; 3], plan: &[u32; 32], x: u32, y: u32, mode: u32) -> 
         (λ s. r ≡ top (plan-of (now (plan .entry))) s (numbered x y mode)) ⌝ }
 {
     let a = level_at(src, plan, x);
-    if mode < 8 {
+    if mode < ADDING {
         return a;
     }
-    if mode < 16 {
+    if mode < WAITING {
         return least(a, level_at(src, plan, y));
     }
-    if mode < 32 {
-        return least(a, plan[(mode - 16) as usize]);
+    if mode < SWAPPING {
+        return least(a, plan[(mode - WAITING) as usize]);
     }
     let both = least(a, level_at(src, plan, y));
-    if mode < 64 {
-        return least(both, plan[((mode - 32) / 2) as usize]);
+    if mode < CHOOSING {
+        return least(both, plan[((mode - SWAPPING) / 2) as usize]);
     }
-    least(both, plan[((mode - 64) / 8) as usize])
+    least(both, plan[((mode - CHOOSING) / 8) as usize])
 }
 
 // ---- what a bit turns a state into
@@ -116,7 +133,7 @@ fn paired(plan: &[u32; 32], x: u32, y: u32, mode: u32) -> State
         return State { x, y: x, mode: 0 };
     }
     if x == plan[ZERO] {
-        if mode == 8 {
+        if mode == ADDING {
             return State { x: y, y, mode: 0 };
         }
         return State { x: y, y, mode: 4 };
@@ -140,7 +157,7 @@ fn chosen(plan: &[u32; 32], k: u32, e: u32, x: u32, y: u32) -> State
     State {
         x,
         y,
-        mode: 64 + 8 * k + e,
+        mode: CHOOSING + 8 * k + e,
     }
 }
 
@@ -164,24 +181,32 @@ fn taken_from(plan: &[u32; 32], bit: u32) -> u32
     if plan[FLIPS] == 1 { 1 - bit } else { bit }
 }
 
+// Past a swap's first target, whose bit was `seen`, from stage k on.
+fn between(k: u32, seen: u32, x: u32, y: u32) -> State
+    requires { ⌜ (k < 17) × (seen < 2) ⌝ }
+    ensures { λ r. ⌜ r ≡ on-both (swapping k (eqb seen 1)) x y ⌝ }
+{
+    State {
+        x,
+        y,
+        mode: SWAPPING + 2 * k + seen,
+    }
+}
+
 // The target's question, with the controls from stage k on still to come.
 fn at_target(src: &[&[u32]; 3], plan: &[u32; 32], lv: u32, bit: u32, k: u32, x: u32) -> State
     requires { ⌜ Targeting (plan-of (now plan)) (map now (now src)) bit k x ⌝ }
     ensures { λ r. ⌜ Reading (map now (now (src .entry))) x (λ s. r ≡ at-target (plan-of (now (plan .entry))) s lv (eqb bit 1) k x) ⌝ }
 {
-    if plan[ACTION] == 1 {
+    if plan[ACTION] == MIXES {
         let low = cofactor(src, lv, 0, x);
         let high = cofactor(src, lv, 1, x);
-        return paired(plan, low, high, 8 + bit);
+        return paired(plan, low, high, ADDING + bit);
     }
     let own = cofactor(src, lv, bit, x);
-    if plan[ACTION] == 2 {
+    if plan[ACTION] == SWAPS {
         let other = cofactor(src, lv, 1 - bit, x);
-        return State {
-            x: own,
-            y: other,
-            mode: 32 + 2 * k + bit,
-        };
+        return between(k, bit, own, other);
     }
     let other = cofactor(src, lv, taken_from(plan, bit), x);
     chosen(plan, k, phase_at(plan, bit), own, other)
@@ -207,18 +232,45 @@ fn next_waiting(src: &[&[u32]; 3], plan: &[u32; 32], lv: u32, bit: u32, k: u32, 
         return State {
             x: own,
             y: own,
-            mode: 17 + k,
+            mode: WAITING + (k + 1),
         };
     }
     let own = cofactor(src, lv, bit, x);
     State {
         x: own,
         y: own,
-        mode: 16 + k,
+        mode: WAITING + k,
     }
 }
 
-// Past a swap's first target, whose bit was `seen`: the second target's question, a control's, or one that it passes by.
+// The second target's question, after a first whose bit was `seen`: where the bits are alike there is nothing to exchange.
+fn at_second(
+    src: &[&[u32]; 3],
+    plan: &[u32; 32],
+    lv: u32,
+    bit: u32,
+    k: u32,
+    seen: u32,
+    x: u32,
+    y: u32,
+) -> State
+    requires { ⌜ (k < 17) × (seen < 2) × (bit < 2) × Readable (map now (now src)) x × Readable (map now (now src)) y ⌝ }
+    ensures { λ r. ⌜ Reading-both (map now (now (src .entry))) x y
+        (λ s. r ≡ at-second (plan-of (now (plan .entry))) s lv (eqb bit 1) k (eqb seen 1) x y) ⌝ }
+{
+    let own = cofactor(src, lv, bit, x);
+    if bit == seen {
+        return State {
+            x: own,
+            y: own,
+            mode: 0,
+        };
+    }
+    let other = cofactor(src, lv, seen, y);
+    chosen(plan, k, 0, own, other)
+}
+
+// Between a swap's targets: the second target's question, a control's, or one that it passes by.
 fn next_swapping(
     src: &[&[u32]; 3],
     plan: &[u32; 32],
@@ -233,19 +285,11 @@ fn next_swapping(
     ensures { λ r. ⌜ Reading-both (map now (now (src .entry))) x y
         (λ s. r ≡ next-by (plan-of (now (plan .entry))) s lv (eqb bit 1) (swapping k (eqb seen 1)) x y) ⌝ }
 {
-    let own = cofactor(src, lv, bit, x);
     if plan[k as usize] == lv {
         if plan[SECOND] == k {
-            if bit == seen {
-                return State {
-                    x: own,
-                    y: own,
-                    mode: 0,
-                };
-            }
-            let other = cofactor(src, lv, seen, y);
-            return chosen(plan, k + 1, 0, own, other);
+            return at_second(src, plan, lv, bit, k + 1, seen, x, y);
         }
+        let own = cofactor(src, lv, bit, x);
         if bit == 0 {
             return State {
                 x: own,
@@ -254,18 +298,11 @@ fn next_swapping(
             };
         }
         let other = cofactor(src, lv, bit, y);
-        return State {
-            x: own,
-            y: other,
-            mode: 34 + 2 * k + seen,
-        };
+        return between(k + 1, seen, own, other);
     }
+    let own = cofactor(src, lv, bit, x);
     let other = cofactor(src, lv, bit, y);
-    State {
-        x: own,
-        y: other,
-        mode: 32 + 2 * k + seen,
-    }
+    between(k, seen, own, other)
 }
 
 // A gate that has acted on y, with the controls from stage k on still to come.
@@ -312,7 +349,7 @@ pub fn next(
     ensures { λ r. ⌜ Reading-both (map now (now (src .entry))) x y
         (λ s. r ≡ next-state (plan-of (now (plan .entry))) s lv (eqb bit 1) (numbered x y mode)) ⌝ }
 {
-    if mode < 8 {
+    if mode < ADDING {
         let own = cofactor(src, lv, bit, x);
         return State {
             x: own,
@@ -320,16 +357,34 @@ pub fn next(
             mode,
         };
     }
-    if mode < 16 {
+    if mode < WAITING {
         let own = cofactor(src, lv, bit, x);
         let other = cofactor(src, lv, bit, y);
         return paired(plan, own, other, mode);
     }
-    if mode < 32 {
-        return next_waiting(src, plan, lv, bit, mode - 16, x);
+    if mode < SWAPPING {
+        return next_waiting(src, plan, lv, bit, mode - WAITING, x);
     }
-    if mode < 64 {
-        return next_swapping(src, plan, lv, bit, (mode - 32) / 2, (mode - 32) % 2, x, y);
+    if mode < CHOOSING {
+        return next_swapping(
+            src,
+            plan,
+            lv,
+            bit,
+            (mode - SWAPPING) / 2,
+            (mode - SWAPPING) % 2,
+            x,
+            y,
+        );
     }
-    next_choosing(src, plan, lv, bit, (mode - 64) / 8, (mode - 64) % 8, x, y)
+    next_choosing(
+        src,
+        plan,
+        lv,
+        bit,
+        (mode - CHOOSING) / 8,
+        (mode - CHOOSING) % 8,
+        x,
+        y,
+    )
 }

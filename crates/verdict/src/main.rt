@@ -3,8 +3,11 @@ use libc::STDERR_FILENO;
 use libc::STDIN_FILENO;
 use libc::STDOUT_FILENO;
 
+// The most bytes that are read.
+const MOST_BYTES: usize = 57344;
+
 fn main() {
-    let mut input = [0; 57344];
+    let mut input = [0; MOST_BYTES];
     let n = io::read_full(STDIN_FILENO, &mut input);
     let mut line = [0; reports::ROOM];
     let end = inputs::answer_line(&input[..n], &mut line);

@@ -1,6 +1,6 @@
--- `circuits::read_controlled` meets its contract: what was read is the definition's. Assumes nothing.
-use Rattle.circuits.proofs.Answers.{number-read, number-refused}
-use Rattle.circuits.specs.Reading.{qubit}
+-- `circuits::read_controlled` meets its contract: the target is read where the control ends. Assumes nothing.
+use mathlib.Core.Path.{sym, _∙_, ap}
+use Rattle.circuits.specs.Answers.{placed}
 use borrow.Author.Needs.{needs}
 use Rattle.circuits.proofs.read_controlled.Statement.{statement}
 use Rattle.circuits.proofs.read_controlled.Tie as tie
@@ -17,11 +17,16 @@ enum-known-value c = search needs
 read-target-requires : tie.Need-read-target-requires
 read-target-requires c κs = search needs
 
+place-requires : tie.Need-place-requires
+place-requires c κs = search needs
+
 returns : tie.Need-returns
-returns c = rw (number-refused (qubit _ _ _) (c .before .before .before .read-qubit .ensures) (c .before .why .given .1))
+returns c = rw (sym (c .before .before .before .read-qubit .ensures) ∙ c .before .why .given .1)
 
 returns-2 : tie.Need-returns-2
-returns-2 c = let v = c .before .before in rw (number-read (qubit _ _ _) (v .before .before .read-qubit .ensures) (v .value .given .1)) (c .read-target .ensures)
+returns-2 c =
+    let value = c .before .before .before in
+    rw (sym (value .before .before .read-qubit .ensures) ∙ value .value .given .1) (c .place .ensures ∙ ap (placed _ _) (c .before .read-target .ensures))
 
 pub read-controlled-spec : {M : Type 1} → statement M
 read-controlled-spec =
@@ -31,5 +36,6 @@ read-controlled-spec =
     enum-known-why
     enum-known-value
     read-target-requires
+    place-requires
     returns
     returns-2)

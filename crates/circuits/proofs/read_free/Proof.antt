@@ -1,7 +1,10 @@
 -- `circuits::read_free` meets its contract: what was read, and the test on it, are the definition's. Assumes nothing.
-use mathlib.Core.Path.{sym, _∙_}
-use Rattle.circuits.proofs.Answers.{number-read, number-refused}
+use mathlib.Core.Path.{ap}
+use mathlib.Core.Bool.{not}
+use Rattle.gates.specs.Gate.{in-mask}
+use Rattle.circuits.specs.Refusals.{control-is-target}
 use Rattle.circuits.specs.Reading.{free-qubit, qubit}
+use Rattle.circuits.proofs.Answers.{checked-kept, checked-refused}
 use borrow.Author.Needs.{needs}
 use Rattle.circuits.proofs.read_free.Statement.{statement}
 use Rattle.circuits.proofs.read_free.Tie as tie
@@ -18,21 +21,25 @@ enum-known-value c = search needs
 in-mask-requires : tie.Need-in-mask-requires
 in-mask-requires c κs = search needs
 
+kept-requires : tie.Need-kept-requires
+kept-requires c κs = search needs
+
 returns : tie.Need-returns
 unfolding free-qubit
-returns c = rw (number-refused (qubit _ _ _) (c .before .before .before .read-qubit .ensures) (c .before .why .given .1))
+returns c =
+    let it = c .before .before .before in
+    let start = it .before .before in
+    checked-refused control-is-target (λ q. not (in-mask (start .args .mask) q)) (qubit (start .args .qubits)) _ _ (it .read-qubit .ensures)
+    (c .before .why .given .1)
 
 returns-2 : tie.Need-returns-2
 unfolding free-qubit
 returns-2 c =
-    let v = c .before .before .before in
-    rw (number-read (qubit _ _ _) (v .before .before .read-qubit .ensures) (v .value .given .1), sym (c .before .in-mask .ensures) ∙ c .if1 .taken)
-
-returns-3 : tie.Need-returns-3
-unfolding free-qubit
-returns-3 c =
-    let v = c .before .before .before in
-    rw (number-read (qubit _ _ _) (v .before .before .read-qubit .ensures) (v .value .given .1), sym (c .before .in-mask .ensures) ∙ c .if1 .left)
+    let value = c .before .before .before in
+    let it = value .before .before in
+    let start = it .before .before in
+    checked-kept control-is-target (λ q. not (in-mask (start .args .mask) q)) (qubit (start .args .qubits)) _ _ (it .read-qubit .ensures)
+    (value .value .given .1) (ap not (c .before .in-mask .ensures)) (c .kept .ensures)
 
 pub read-free-spec : {M : Type 1} → statement M
 read-free-spec =
@@ -42,6 +49,6 @@ read-free-spec =
     enum-known-why
     enum-known-value
     in-mask-requires
+    kept-requires
     returns
-    returns-2
-    returns-3)
+    returns-2)

@@ -1,7 +1,9 @@
 -- `circuits::read_mask_below` meets its contract: what was read, and the test on it, are the definition's. Assumes nothing.
-use mathlib.Core.Path.{sym, _∙_}
-use Rattle.circuits.proofs.Answers.{number-read, number-refused}
+use Prim.Native.Nat.{_^_}
+use lib.Dec.{ltb}
+use Rattle.circuits.specs.Refusals.{no-such-qubit}
 use Rattle.circuits.specs.Reading.{mask-below, number}
+use Rattle.circuits.proofs.Answers.{checked-kept, checked-refused}
 use borrow.Author.Needs.{needs}
 use Rattle.circuits.proofs.read_mask_below.Statement.{statement}
 use Rattle.circuits.proofs.read_mask_below.Tie as tie
@@ -18,21 +20,25 @@ enum-known-value c = search needs
 below-count-requires : tie.Need-below-count-requires
 below-count-requires c κs = search needs
 
+kept-requires : tie.Need-kept-requires
+kept-requires c κs = search needs
+
 returns : tie.Need-returns
 unfolding mask-below
-returns c = rw (number-refused (number _ _) (c .before .before .before .read-number .ensures) (c .before .why .given .1))
+returns c =
+    let it = c .before .before .before in
+    let start = it .before .before in
+    checked-refused no-such-qubit (λ m. ltb m (2 ^ start .args .qubits)) number _ _ (it .read-number .ensures)
+    (c .before .why .given .1)
 
 returns-2 : tie.Need-returns-2
 unfolding mask-below
 returns-2 c =
-    let v = c .before .before .before in
-    rw (number-read (number _ _) (v .before .before .read-number .ensures) (v .value .given .1), sym (c .before .below-count .ensures) ∙ c .if1 .taken)
-
-returns-3 : tie.Need-returns-3
-unfolding mask-below
-returns-3 c =
-    let v = c .before .before .before in
-    rw (number-read (number _ _) (v .before .before .read-number .ensures) (v .value .given .1), sym (c .before .below-count .ensures) ∙ c .if1 .left)
+    let value = c .before .before .before in
+    let it = value .before .before in
+    let start = it .before .before in
+    checked-kept no-such-qubit (λ m. ltb m (2 ^ start .args .qubits)) number _ _ (it .read-number .ensures)
+    (value .value .given .1) (c .before .below-count .ensures) (c .kept .ensures)
 
 pub read-mask-below-spec : {M : Type 1} → statement M
 read-mask-below-spec =
@@ -42,6 +48,6 @@ read-mask-below-spec =
     enum-known-why
     enum-known-value
     below-count-requires
+    kept-requires
     returns
-    returns-2
-    returns-3)
+    returns-2)

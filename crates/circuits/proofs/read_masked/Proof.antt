@@ -1,6 +1,7 @@
--- `circuits::read_masked` meets its contract: what was read is the definition's. Assumes nothing.
-use Rattle.circuits.proofs.Answers.{number-read, number-refused}
-use Rattle.circuits.specs.Reading.{mask}
+-- `circuits::read_masked` meets its contract: one target or two are read where the mask ends. Assumes nothing.
+use mathlib.Core.Path.{sym, _∙_, ap}
+use borrow.Author.Tests.{eq-eqb, ne-eqb}
+use Rattle.circuits.specs.Answers.{placed}
 use borrow.Author.Needs.{needs}
 use Rattle.circuits.proofs.read_masked.Statement.{statement}
 use Rattle.circuits.proofs.read_masked.Tie as tie
@@ -18,10 +19,24 @@ read-targets-requires : tie.Need-read-targets-requires
 read-targets-requires c κs = search needs
 
 returns : tie.Need-returns
-returns c = rw (number-refused (mask _ _ _ _) (c .before .before .before .read-mask .ensures) (c .before .why .given .1))
+returns c =
+    let value = c .before .before .before in
+    rw (sym (value .before .before .read-mask .ensures) ∙ value .value .given .1, eq-eqb _ _ (c .before .if1 .taken)) (c .read-targets .ensures)
+
+read-free-requires : tie.Need-read-free-requires
+read-free-requires c κs = search needs
+
+place-requires : tie.Need-place-requires
+place-requires c κs = search needs
 
 returns-2 : tie.Need-returns-2
-returns-2 c = let v = c .before .before in rw (number-read (mask _ _ _ _) (v .before .before .read-mask .ensures) (v .value .given .1)) (c .read-targets .ensures)
+returns-2 c = rw (sym (c .before .before .before .read-mask .ensures) ∙ c .before .why .given .1)
+
+returns-3 : tie.Need-returns-3
+returns-3 c =
+    let value = c .before .before .before .before in
+    rw (sym (value .before .before .read-mask .ensures) ∙ value .value .given .1, ne-eqb _ _ (c .before .before .if1 .left))
+    (c .place .ensures ∙ ap (placed _ _) (c .before .read-free .ensures))
 
 pub read-masked-spec : {M : Type 1} → statement M
 read-masked-spec =
@@ -32,4 +47,7 @@ read-masked-spec =
     enum-known-value
     read-targets-requires
     returns
-    returns-2)
+    read-free-requires
+    place-requires
+    returns-2
+    returns-3)

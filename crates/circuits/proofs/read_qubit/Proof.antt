@@ -1,9 +1,10 @@
--- `circuits::read_qubit` meets its contract: the number that was read, and the test on it, are the definition's.
--- Assumes nothing.
-use borrow.Author.Needs.{needs}
-use borrow.Author.Tests.{lt-ltb, le-ltb}
+-- `circuits::read_qubit` meets its contract: what was read, and the test on it, are the definition's. Assumes nothing.
+use mathlib.Core.Path.{refl}
+use lib.Dec.{ltb}
+use Rattle.circuits.specs.Refusals.{no-such-qubit}
 use Rattle.circuits.specs.Reading.{number, qubit}
-use Rattle.circuits.proofs.Answers.{number-read, number-refused}
+use Rattle.circuits.proofs.Answers.{checked-kept, checked-refused}
+use borrow.Author.Needs.{needs}
 use Rattle.circuits.proofs.read_qubit.Statement.{statement}
 use Rattle.circuits.proofs.read_qubit.Tie as tie
 
@@ -16,23 +17,33 @@ enum-known-why c = search needs
 enum-known-value : tie.Need-enum-known-value
 enum-known-value c = search needs
 
+kept-requires : tie.Need-kept-requires
+kept-requires c κs = search needs
+
 returns : tie.Need-returns
 unfolding qubit
-returns c = rw (number-refused (number _ _) (c .before .before .before .read-number .ensures) (c .before .why .given .1))
+returns c =
+    let it = c .before .before .before in
+    let start = it .before .before in
+    checked-refused no-such-qubit (λ q. ltb q (start .args .qubits)) number _ _ (it .read-number .ensures)
+    (c .before .why .given .1)
 
 returns-2 : tie.Need-returns-2
 unfolding qubit
 returns-2 c =
-    let v = c .before .before in
-    rw (number-read (number _ _) (v .before .before .read-number .ensures) (v .value .given .1), lt-ltb _ _ (c .if1 .taken))
-
-returns-3 : tie.Need-returns-3
-unfolding qubit
-returns-3 c =
-    let v = c .before .before in
-    rw (number-read (number _ _) (v .before .before .read-number .ensures) (v .value .given .1), le-ltb _ _ (c .if1 .left))
+    let value = c .before .before in
+    let it = value .before .before in
+    let start = it .before .before in
+    checked-kept no-such-qubit (λ q. ltb q (start .args .qubits)) number _ _ (it .read-number .ensures)
+    (value .value .given .1) refl (c .kept .ensures)
 
 pub read-qubit-spec : {M : Type 1} → statement M
 read-qubit-spec =
     tie.close
-    (tie.spec read-number-requires enum-known-why enum-known-value returns returns-2 returns-3)
+    (tie.spec
+    read-number-requires
+    enum-known-why
+    enum-known-value
+    kept-requires
+    returns
+    returns-2)

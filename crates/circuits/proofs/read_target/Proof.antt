@@ -1,7 +1,10 @@
 -- `circuits::read_target` meets its contract: what was read, and the test on it, are the definition's. Assumes nothing.
-use borrow.Author.Tests.{eq-eqb, ne-eqb}
-use Rattle.circuits.proofs.Answers.{number-read, number-refused}
+use mathlib.Core.Path.{refl}
+use mathlib.Core.Bool.{not}
+use lib.Dec.{eqb}
+use Rattle.circuits.specs.Refusals.{control-is-target}
 use Rattle.circuits.specs.Reading.{qubit, target-qubit}
+use Rattle.circuits.proofs.Answers.{checked-kept, checked-refused}
 use borrow.Author.Needs.{needs}
 use Rattle.circuits.proofs.read_target.Statement.{statement}
 use Rattle.circuits.proofs.read_target.Tie as tie
@@ -15,23 +18,33 @@ enum-known-why c = search needs
 enum-known-value : tie.Need-enum-known-value
 enum-known-value c = search needs
 
+kept-requires : tie.Need-kept-requires
+kept-requires c κs = search needs
+
 returns : tie.Need-returns
 unfolding target-qubit
-returns c = rw (number-refused (qubit _ _ _) (c .before .before .before .read-qubit .ensures) (c .before .why .given .1))
+returns c =
+    let it = c .before .before .before in
+    let start = it .before .before in
+    checked-refused control-is-target (λ q. not (eqb q (start .args .control))) (qubit (start .args .qubits)) _ _ (it .read-qubit .ensures)
+    (c .before .why .given .1)
 
 returns-2 : tie.Need-returns-2
 unfolding target-qubit
 returns-2 c =
-    let v = c .before .before in
-    rw (number-read (qubit _ _ _) (v .before .before .read-qubit .ensures) (v .value .given .1), eq-eqb _ _ (c .if1 .taken))
-
-returns-3 : tie.Need-returns-3
-unfolding target-qubit
-returns-3 c =
-    let v = c .before .before in
-    rw (number-read (qubit _ _ _) (v .before .before .read-qubit .ensures) (v .value .given .1), ne-eqb _ _ (c .if1 .left))
+    let value = c .before .before in
+    let it = value .before .before in
+    let start = it .before .before in
+    checked-kept control-is-target (λ q. not (eqb q (start .args .control))) (qubit (start .args .qubits)) _ _ (it .read-qubit .ensures)
+    (value .value .given .1) refl (c .kept .ensures)
 
 pub read-target-spec : {M : Type 1} → statement M
 read-target-spec =
     tie.close
-    (tie.spec read-qubit-requires enum-known-why enum-known-value returns returns-2 returns-3)
+    (tie.spec
+    read-qubit-requires
+    enum-known-why
+    enum-known-value
+    kept-requires
+    returns
+    returns-2)

@@ -1,7 +1,6 @@
--- `circuits::read_targets` meets its contract: the first target, and whether a second follows. Assumes nothing.
-use borrow.Author.Tests.{eq-eqb, ne-eqb}
-use Rattle.circuits.proofs.Answers.{number-read, number-refused}
-use Rattle.circuits.specs.Reading.{free-qubit}
+-- `circuits::read_targets` meets its contract: the second target is read where the first ends. Assumes nothing.
+use mathlib.Core.Path.{sym, _∙_, ap}
+use Rattle.circuits.specs.Answers.{swapped}
 use borrow.Author.Needs.{needs}
 use Rattle.circuits.proofs.read_targets.Statement.{statement}
 use Rattle.circuits.proofs.read_targets.Tie as tie
@@ -15,21 +14,19 @@ enum-known-why c = search needs
 enum-known-value : tie.Need-enum-known-value
 enum-known-value c = search needs
 
-read-last-requires : tie.Need-read-last-requires
-read-last-requires c κs = search needs
+read-second-requires : tie.Need-read-second-requires
+read-second-requires c κs = search needs
+
+swap-requires : tie.Need-swap-requires
+swap-requires c κs = search needs
 
 returns : tie.Need-returns
-returns c = rw (number-refused (free-qubit _ _ _ _) (c .before .before .before .read-free .ensures) (c .before .why .given .1))
+returns c = rw (sym (c .before .before .before .read-free .ensures) ∙ c .before .why .given .1)
 
 returns-2 : tie.Need-returns-2
 returns-2 c =
-    let v = c .before .before .before in
-    rw (number-read (free-qubit _ _ _ _) (v .before .before .read-free .ensures) (v .value .given .1), eq-eqb _ _ (c .before .if1 .taken)) (c .read-last .ensures)
-
-returns-3 : tie.Need-returns-3
-returns-3 c =
-    let v = c .before .before in
-    rw (number-read (free-qubit _ _ _ _) (v .before .before .read-free .ensures) (v .value .given .1), ne-eqb _ _ (c .if1 .left))
+    let value = c .before .before .before in
+    rw (sym (value .before .before .read-free .ensures) ∙ value .value .given .1) (c .swap .ensures ∙ ap (swapped _ _ _) (c .before .read-second .ensures))
 
 pub read-targets-spec : {M : Type 1} → statement M
 read-targets-spec =
@@ -38,7 +35,7 @@ read-targets-spec =
     read-free-requires
     enum-known-why
     enum-known-value
-    read-last-requires
+    read-second-requires
+    swap-requires
     returns
-    returns-2
-    returns-3)
+    returns-2)

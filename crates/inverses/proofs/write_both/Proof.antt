@@ -1,7 +1,7 @@
 -- `inverses::write_both` meets its contract: one number is written after the other. Assumes nothing.
 use borrow.Author.Needs.{needs}
 use native.Mathlib.Omega.{arith}
-use lib.ListN.{length, length-append}
+use lib.ListN.{length-append}
 use Rattle.encodings.specs.Encoding.{number-bytes}
 use Rattle.encodings.proofs.Puts.{put-then, put-length}
 use Rattle.inverses.proofs.write_both.Statement.{statement}

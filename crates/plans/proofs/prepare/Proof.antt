@@ -1,5 +1,5 @@
 -- `plans::prepare` meets its contract: the gate's action, then its stages. Assumes nothing.
-use mathlib.Core.Path.{_∙_, ap, ap₂}
+use mathlib.Core.Path.{_∙_, ap}
 use Rattle.gates.specs.declared.Phases.{Phases}
 use borrow.Author.Needs.{needs}
 use Rattle.plans.specs.Prepare.{with-action, with-stages, prepared}

@@ -42,21 +42,17 @@ sub-cofactor c = search needs
 cofactor-requires-4 : tie.Need-cofactor-requires-4
 cofactor-requires-4 c κs = search needs
 
-mul-t19 : tie.Need-mul-t19
-mul-t19 c = search needs
-
-add-t20 : tie.Need-add-t20
-add-t20 c = search needs
-
-add-t21 : tie.Need-add-t21
-add-t21 c = search needs
+between-requires : tie.Need-between-requires
+between-requires c κs = let start = c .before .before .before .before .before .before in (start .pre .few, start .pre .a-bit)
 
 returns-2 : tie.Need-returns-2
 returns-2 c = λ s held refers.
-    let at-own = c .before .before .before in
+    let test = c .before .before in
+    let at-own = test .before .before in
     let start = at-own .before .before .before in
-    at-target-swaps _ s _ _ _ _ _ _ (start .pre .a-bit) (ne-eqb _ _ (at-own .before .if1 .left)) (eq-eqb _ _ (c .before .if2 .taken))
-    (at-own .cofactor3 .ensures s held refers) (c .cofactor4 .ensures s held refers)
+    c .between .ensures
+    ∙ at-target-swaps _ s _ _ _ _ _ _ (start .pre .a-bit) (ne-eqb _ _ (at-own .before .if1 .left)) (eq-eqb _ _ (test .if2 .taken))
+    (at-own .cofactor3 .ensures s held refers) (c .before .cofactor4 .ensures s held refers)
 
 taken-from-requires : tie.Need-taken-from-requires
 taken-from-requires c κs = search needs
@@ -96,9 +92,7 @@ at-target-spec =
     element-copy-out-if2
     sub-cofactor
     cofactor-requires-4
-    mul-t19
-    add-t20
-    add-t21
+    between-requires
     returns-2
     taken-from-requires
     cofactor-requires-5

@@ -43,6 +43,9 @@ returns-2 c = λ s held refers.
 add-t17 : tie.Need-add-t17
 add-t17 c = search needs
 
+add-t20 : tie.Need-add-t20
+add-t20 c = search needs
+
 returns-3 : tie.Need-returns-3
 returns-3 c = λ s held refers.
     let at = c .before .before .before .before in
@@ -75,6 +78,7 @@ next-waiting-spec =
     cofactor-requires
     returns-2
     add-t17
+    add-t20
     returns-3
     cofactor-requires-2
     add-t13
