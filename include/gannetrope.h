@@ -31,9 +31,9 @@ extern "C" {
 #define GANNETROPE_VALUES 4        /* equal, different: used value slots of the first store */
 #define GANNETROPE_ROW 5           /* different: the row of the first forbidding entry */
 #define GANNETROPE_COLUMN 6        /* different: its column */
-#define GANNETROPE_REFUSAL 7       /* refused: the number of the refusal, 1 to 14 */
-#define GANNETROPE_LIST 8          /* refused with 3 to 10: the list, 1 or 2 */
-#define GANNETROPE_OFFSET 9        /* refused with 3 to 10: an offset in that list */
+#define GANNETROPE_REFUSAL 7       /* refused: the number of the refusal, 1 to 14 or 17 */
+#define GANNETROPE_LIST 8          /* refused with 3 to 10 or 17: the list, 1 or 2 */
+#define GANNETROPE_OFFSET 9        /* refused with 3 to 10 or 17: an offset in that list */
 #define GANNETROPE_REFUSED_AFTER 10 /* refused with 13 or 14: steps finished before */
 
 /* The kinds of report. */
@@ -45,8 +45,8 @@ extern "C" {
 #define GANNETROPE_ENTRY 0  /* equal: the factor; different: the first forbidding entry */
 #define GANNETROPE_CORNER 4 /* different: the entry at row 0, column 0 */
 
-/* Bytes of stack that are enough for a call of gannetrope_judge. The most that was seen in use is 967, 811,687 and 4,744,583. */
-#define GANNETROPE_STACK_REFUSED 65536 /* refused with 1 to 12, before any step */
+/* Bytes of stack that are enough for a call of gannetrope_judge. The most that was seen in use is 991, 811,751 and 4,744,647. */
+#define GANNETROPE_STACK_REFUSED 65536 /* refused with 1 to 12 or 17, before any step */
 #define GANNETROPE_STACK_SMALL 1048576 /* N and L at most 4,096 */
 #define GANNETROPE_STACK_LARGE 8388608 /* any call */
 
@@ -64,8 +64,8 @@ extern "C" {
  * entries        at least GANNETROPE_ENTRIES slots for its entries; more are left alone
  *
  * Returns 0 if the pair was judged: the report is in `numbers` and `entries`. After equal or different the first store
- * holds the miter's reduced diagram with its unused slots 0, and the second is all 0. The refusals 1 to 12 change no
- * store; 13 and 14 leave both all 0.
+ * holds the miter's reduced diagram with its unused slots 0, and the second is all 0. The refusals 1 to 12 and 17
+ * change no store; 13 and 14 leave both all 0.
  *
  * Returns 1 if `numbers` or `entries` is too short: then nothing was judged and nothing written.
  *
@@ -110,9 +110,9 @@ uint32_t gannetrope_schedule(uint32_t m, uint32_t p, uint8_t *buffer, size_t buf
 /* The slots of `numbers`. A slot that the answer has no value for is 0. */
 #define GANNETROPE_WRITER_KIND 0    /* GANNETROPE_WRITTEN or GANNETROPE_REFUSED */
 #define GANNETROPE_WRITER_BYTES 1   /* written: how many bytes */
-#define GANNETROPE_WRITER_REFUSAL 2 /* refused: the number of the refusal, 3 to 10 or 16 */
-#define GANNETROPE_WRITER_LIST 3    /* refused with 3 to 10: the list, 1 */
-#define GANNETROPE_WRITER_OFFSET 4  /* refused with 3 to 10: an offset in that list */
+#define GANNETROPE_WRITER_REFUSAL 2 /* refused: the number of the refusal, 3 to 10, 16 or 17 */
+#define GANNETROPE_WRITER_LIST 3    /* refused with 3 to 10 or 17: the list, 1 */
+#define GANNETROPE_WRITER_OFFSET 4  /* refused with 3 to 10 or 17: an offset in that list */
 
 /* The kind of an answer that is no refusal. */
 #define GANNETROPE_WRITTEN 0
@@ -125,8 +125,8 @@ uint32_t gannetrope_schedule(uint32_t m, uint32_t p, uint8_t *buffer, size_t buf
  * buffer         as many bytes as the list has; more are left alone
  * numbers        at least GANNETROPE_WRITER_NUMBERS slots for the answer; more are left alone
  *
- * Returns 0 if `numbers` has the answer: the bytes written, which are as many as the list's, or the refusal, 3 to 10 of
- * the list and then 16 where the buffer is shorter than the inverse; a refusal leaves the buffer alone.
+ * Returns 0 if `numbers` has the answer: the bytes written, which are as many as the list's, or the refusal, 3 to 10 or
+ * 17 of the list and then 16 where the buffer is shorter than the inverse; a refusal leaves the buffer alone.
  *
  * Returns 1 if `numbers` is too short: then nothing was written.
  *

@@ -22,10 +22,11 @@ struct lent {
 
 static struct lent lent, untouched;
 
-/* two qubits: CNOT 0 1; H 1, CZ 0 1, H 1; CNOT 1 0 */
+/* two qubits: CNOT 0 1; H 1, CZ 0 1, H 1; CNOT 1 0; Toffoli with one control */
 static const uint8_t cnot[] = {2, 1, 8, 0, 1};
 static const uint8_t by_cz[] = {2, 3, 3, 1, 9, 0, 1, 3, 1};
 static const uint8_t turned[] = {2, 1, 8, 1, 0};
+static const uint8_t few[] = {2, 1, 10, 1, 1};
 static const uint8_t schedule[] = {0, 1, 1, 1};
 
 /* Judges the first list against another one, in stores that hold something. */
@@ -104,6 +105,8 @@ static void print_inverse(const uint8_t *list, size_t list_length, size_t length
 
 int main(void) {
     static const uint8_t undone[] = {2, 3, 6, 1, 8, 0, 1, 3, 0};
+    /* three qubits: Toffoli with controls 0 and 1 onto 2, Fredkin with control 0 of 2 and 1 */
+    static const uint8_t masks[] = {3, 2, 10, 3, 2, 11, 1, 2, 1};
     const size_t writer = GANNETROPE_WRITER_NUMBERS;
     const size_t numbers = GANNETROPE_NUMBERS, entries = GANNETROPE_ENTRIES;
     memset(&untouched, 0x55, sizeof untouched);
@@ -112,6 +115,7 @@ int main(void) {
     print_first_store();
     print_report("different, longer slots", judge(turned, sizeof turned, 2, numbers + 1, entries + 1));
     print_report("list 2 cut", judge(turned, sizeof turned - 1, 2, numbers, entries));
+    print_report("too few controls", judge(few, sizeof few, 2, numbers, entries));
     print_report("schedule too long", judge(turned, sizeof turned, 3, numbers, entries));
     print_report("numbers too short", judge(by_cz, sizeof by_cz, 4, numbers - 1, entries));
     print_report("entries too short", judge(by_cz, sizeof by_cz, 4, numbers, entries - 1));
@@ -123,5 +127,7 @@ int main(void) {
     print_inverse(undone, sizeof undone, sizeof undone - 1, writer);
     print_inverse(undone, sizeof undone - 1, 12, writer);
     print_inverse(undone, sizeof undone, 12, writer - 1);
+    print_inverse(masks, sizeof masks, 12, writer);
+    print_inverse(few, sizeof few, 12, writer);
     return 0;
 }

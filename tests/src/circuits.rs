@@ -1,7 +1,9 @@
 //! Circuits to judge: written as lists, made at random, rewritten.
 
-use crate::dense::matrix::{CNOT, CZ, Gate, H};
-use crate::dense::reader::Circuit;
+use gannetrope::MOST_GATES;
+
+use crate::dense::matrix::{CNOT, CODES, CZ, FREDKIN, Gate, H, TOFFOLI, targets};
+use crate::dense::reader::{Circuit, LEAST_OF_FREDKIN, LEAST_OF_TOFFOLI};
 use crate::random::Random;
 
 pub const X: u32 = 0;
@@ -12,8 +14,9 @@ pub const S_INVERSE: u32 = 5;
 pub const T: u32 = 6;
 pub const T_INVERSE: u32 = 7;
 
-/// The codes of gates on one qubit.
+/// The codes of gates on one qubit, and on one or two.
 const ON_ONE_QUBIT: u32 = 8;
+const ON_TWO_QUBITS: u32 = 10;
 
 /// The circuit of these gates on one qubit.
 pub fn on_one_qubit(codes: &[u32]) -> Circuit {
@@ -26,10 +29,29 @@ pub fn list(circuit: &Circuit) -> Vec<u8> {
     write_number(&mut bytes, circuit.qubits);
     write_number(&mut bytes, circuit.gates.len() as u32);
     for gate in &circuit.gates {
-        write_number(&mut bytes, gate.code);
-        gate.qubits.iter().for_each(|&qubit| write_number(&mut bytes, qubit));
+        numbers(gate).into_iter().for_each(|number| write_number(&mut bytes, number));
     }
     bytes
+}
+
+/// As many gates as there may be, each of six bytes: no list is longer than this one.
+pub fn longest() -> Circuit {
+    let gate = Gate::controlled(FREDKIN, &[13, 14], &[15, 0]);
+    Circuit { qubits: 16, gates: vec![gate; MOST_GATES as usize] }
+}
+
+/// What a list has for a gate: its code, then its qubits, or a mask of its controls and its targets.
+fn numbers(gate: &Gate) -> Vec<u32> {
+    if gate.code < TOFFOLI {
+        return [&[gate.code], &gate.qubits[..]].concat();
+    }
+    let (controls, targets) = gate.controls_and_targets();
+    [&[gate.code, mask(controls)], targets].concat()
+}
+
+/// Bit q is set for qubit q.
+fn mask(controls: &[u32]) -> u32 {
+    controls.iter().map(|control| 1 << control).sum()
 }
 
 /// Groups of seven bits, the lowest first.
@@ -55,14 +77,27 @@ pub fn random_circuit(random: &mut Random, qubits: u32, gates: usize) -> Circuit
 }
 
 pub fn random_gate(random: &mut Random, qubits: u32) -> Gate {
-    let codes = if qubits > 1 { ON_ONE_QUBIT + 2 } else { ON_ONE_QUBIT };
+    let codes = match qubits {
+        1 => ON_ONE_QUBIT,
+        2 => ON_TWO_QUBITS,
+        _ => CODES,
+    };
     let code = random.below(codes as usize) as u32;
-    let first = random.below(qubits as usize) as u32;
-    if code < ON_ONE_QUBIT {
-        return Gate::new(code, &[first]);
-    }
-    let step = random.between(1, qubits as usize - 1) as u32;
-    Gate::new(code, &[first, (first + step) % qubits])
+    random_gate_of(random, code, qubits)
+}
+
+/// A gate of this code, on any qubits in any order, with any number of controls that it may have.
+pub fn random_gate_of(random: &mut Random, code: u32, qubits: u32) -> Gate {
+    let mut others: Vec<u32> = (0..qubits).collect();
+    random.shuffle(&mut others);
+    let targets = others.split_off(others.len() - targets(code));
+    let controls = match code {
+        TOFFOLI => random.between(LEAST_OF_TOFFOLI, others.len()),
+        FREDKIN => random.between(LEAST_OF_FREDKIN, others.len()),
+        CNOT | CZ => 1,
+        _ => 0,
+    };
+    Gate::controlled(code, &others[..controls], &targets)
 }
 
 /// Another circuit for the same operator up to a factor.
@@ -145,6 +180,39 @@ fn made_of(gate: &Gate) -> Vec<Gate> {
         (T_INVERSE, &[q]) => vec![on(S_INVERSE, q), on(T, q)],
         (CNOT, &[control, target]) => vec![on(H, target), Gate::new(CZ, &[control, target]), on(H, target)],
         (CZ, &[control, target]) => vec![Gate::new(CZ, &[target, control])],
+        (TOFFOLI, &[one, other, target]) => toffoli_network(one, other, target),
+        (TOFFOLI, &[control, ref others @ .., target]) => {
+            let turned = Gate::controlled(TOFFOLI, &[others, &[target]].concat(), &[control]);
+            vec![on(H, target), on(H, control), turned, on(H, control), on(H, target)]
+        }
+        (FREDKIN, &[ref controls @ .., one, other]) => {
+            let cnot = Gate::new(CNOT, &[other, one]);
+            let flipped = Gate::controlled(TOFFOLI, &[controls, &[one]].concat(), &[other]);
+            vec![cnot.clone(), flipped, cnot]
+        }
         _ => vec![gate.clone()],
     }
+}
+
+/// A Toffoli gate of two controls by Clifford+T gates.
+pub fn toffoli_network(one: u32, other: u32, target: u32) -> Vec<Gate> {
+    let on = |code, qubit| Gate::new(code, &[qubit]);
+    let cnot = |control, target| Gate::new(CNOT, &[control, target]);
+    vec![
+        on(H, target),
+        cnot(other, target),
+        on(T_INVERSE, target),
+        cnot(one, target),
+        on(T, target),
+        cnot(other, target),
+        on(T_INVERSE, target),
+        cnot(one, target),
+        on(T, other),
+        on(T, target),
+        on(H, target),
+        cnot(one, other),
+        on(T, one),
+        on(T_INVERSE, other),
+        cnot(one, other),
+    ]
 }

@@ -12,6 +12,7 @@ mod json;
 mod limited;
 mod markdown;
 mod on_thread;
+mod permutations;
 mod program;
 mod random;
 mod scripts;
@@ -40,15 +41,17 @@ fn run_groups() -> ExitCode {
     let seed = env::var("GANNETROPE_SEED").map_or(1, |seed| seed.parse().expect("a seed is a number"));
     println!("seed {seed}");
 
-    let groups: [Group; 22] = [
+    let groups: [Group; 24] = [
         ("dense", Box::new(|tally| groups::dense_itself::run(tally, seed))),
         ("paper", Box::new(groups::paper::run)),
         ("refusals", Box::new(|tally| groups::refusals::run(tally, seed))),
+        ("masks", Box::new(|tally| groups::masks::run(tally, seed))),
         ("damage", Box::new(|tally| groups::damage::run(tally, seed))),
         ("random", Box::new(|tally| groups::random_pairs::run(tally, seed))),
         ("answer", Box::new(|tally| groups::one_answer::run(tally, seed))),
         ("widths", Box::new(groups::widths::run)),
         ("places", Box::new(groups::places::run)),
+        ("controls", Box::new(|tally| groups::controls::run(tally, seed))),
         ("qubits", Box::new(|tally| groups::many_qubits::run(tally, seed))),
         ("inverses", Box::new(|tally| groups::inverses::run(tally, seed))),
         ("slow", Box::new(|tally| groups::slow::run(tally, home, &library, &vectors, &program, seed))),

@@ -13,8 +13,8 @@ const REFUSED: u64 = 2;
 /// that of the list.
 ///
 /// # Errors
-/// [`Refusal::Byte`] with 3 to 10 and list 1 where the list is not valid, then [`Refusal::Call`] with 16 where the buffer
-/// is shorter than the inverse; both leave the buffer alone.
+/// [`Refusal::Byte`] with 3 to 10 or 17 and list 1 where the list is not valid, then [`Refusal::Call`] with 16 where
+/// the buffer is shorter than the inverse; both leave the buffer alone.
 ///
 /// ```
 /// let list = [2, 2, 6, 1, 8, 0, 1]; // two qubits, two gates: T 1, CNOT 0 1
@@ -43,7 +43,7 @@ pub fn fill_inverse(list: &[u8], buffer: &mut [u8]) -> Result<usize, Refusal> {
 /// The list of the inverse.
 ///
 /// # Errors
-/// [`Refusal::Byte`] with 3 to 10 and list 1 where the list is not valid.
+/// [`Refusal::Byte`] with 3 to 10 or 17 and list 1 where the list is not valid.
 ///
 /// ```
 /// let list = [2, 2, 6, 1, 8, 0, 1]; // two qubits, two gates: T 1, CNOT 0 1
@@ -66,7 +66,7 @@ fn written(numbers: Numbers) -> Result<usize, Refusal> {
         REFUSED => {
             let [number, list, offset] = refusal.map(|part| u32::try_from(part).expect("every number is below 2^32"));
             Err(match number {
-                3..=10 => Refusal::Byte { number, list, offset },
+                3..=10 | 17 => Refusal::Byte { number, list, offset },
                 _ => Refusal::Call { number },
             })
         }

@@ -93,7 +93,7 @@ pub fn judge(list1: &[u8], list2: &[u8], schedule: Schedule<'_>, limits: Limits)
 /// Judges two gate lists by a lent schedule in lent columns of any lengths and contents.
 ///
 /// After equal or different the first store holds the miter's reduced diagram with its unused slots 0, and the second
-/// is all 0. The refusals 1 to 12 change no column; 13 and 14 leave all of them 0.
+/// is all 0. The refusals 1 to 12 and 17 change no column; 13 and 14 leave all of them 0.
 ///
 /// # Panics
 /// If the system gives no thread to run the call on.

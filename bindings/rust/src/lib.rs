@@ -5,15 +5,18 @@
 //! columns and schedule. [`inverse`] writes the list that undoes a list.
 //!
 //! A gate list is bytes: the number of qubits (1 to 16), the number of gates (at most 4,096), then for each gate its
-//! code and a qubit, or for CNOT and CZ the control and the target.
+//! code and what the table says.
 //!
-//! | code | gate | code | gate |
-//! |---|---|---|---|
-//! | 0 | X | 5 | S† |
-//! | 1 | Y | 6 | T |
-//! | 2 | Z | 7 | T† |
-//! | 3 | H | 8 | CNOT |
-//! | 4 | S | 9 | CZ |
+//! | codes | gates | what follows the code |
+//! |---|---|---|
+//! | 0, 1, 2, 3 | X, Y, Z, H | the qubit |
+//! | 4, 5, 6, 7 | S, S†, T, T† | the qubit |
+//! | 8, 9 | CNOT, CZ | the control, the target |
+//! | 10 | Toffoli: flips the target where all controls are 1 | a mask of two or more controls, the target |
+//! | 11 | Fredkin: swaps the targets where all controls are 1 | a mask of one or more controls, the two targets |
+//!
+//! Bit q of a mask names qubit q. So `[3, 1, 10, 0b011, 2]` is three qubits and one gate, which flips qubit 2 where
+//! qubits 0 and 1 are 1.
 //!
 //! A number over 127 takes two or three bytes of seven bits each, the lowest first, with the top bit set in all but the
 //! last.

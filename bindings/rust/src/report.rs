@@ -111,8 +111,8 @@ pub enum Refusal {
         /// The refusal's number.
         number: u32,
     },
-    /// A list's bytes: 3 cut number, 4 number not in shortest form, 5 qubit count, 6 gate count, 7 code, 8 qubit,
-    /// 9 control equals target, 10 bytes remain.
+    /// A list's bytes: 3 cut number, 4 number not in shortest form, 5 qubit count, 6 gate count, 7 code, 8 qubit or
+    /// bit of a mask past the qubit count, 9 qubit named twice by its gate, 10 bytes remain, 17 too few controls.
     Byte {
         /// The refusal's number.
         number: u32,
@@ -184,7 +184,7 @@ impl Slots {
 
     fn refusal(&self) -> Refusal {
         match self.number(7) {
-            number @ 3..=10 => Refusal::Byte { number, list: self.number(8), offset: self.number(9) },
+            number @ (3..=10 | 17) => Refusal::Byte { number, list: self.number(8), offset: self.number(9) },
             number @ 13..=14 => Refusal::Step { number, steps: self.number(10) },
             number => Refusal::Call { number },
         }

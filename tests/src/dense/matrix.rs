@@ -2,7 +2,7 @@
 
 use super::entry::{Entry, ONE, ZERO};
 
-/// A gate of a list: its code and the qubits it names, the control before the target.
+/// A gate of a list: its code and the qubits it names, the controls before the targets. The controls of a mask rise.
 #[derive(Clone, Debug, PartialEq, Eq)]
 pub struct Gate {
     pub code: u32,
@@ -12,11 +12,30 @@ pub struct Gate {
 pub const H: u32 = 3;
 pub const CNOT: u32 = 8;
 pub const CZ: u32 = 9;
-pub const CODES: u32 = 10;
+pub const TOFFOLI: u32 = 10;
+pub const FREDKIN: u32 = 11;
+pub const CODES: u32 = 12;
+
+/// How many qubits a gate acts on besides its controls.
+pub fn targets(code: u32) -> usize {
+    if code == FREDKIN { 2 } else { 1 }
+}
 
 impl Gate {
     pub fn new(code: u32, qubits: &[u32]) -> Gate {
         Gate { code, qubits: qubits.to_vec() }
+    }
+
+    /// A gate of many controls, in any order.
+    pub fn controlled(code: u32, controls: &[u32], targets: &[u32]) -> Gate {
+        let mut qubits = controls.to_vec();
+        qubits.sort();
+        qubits.extend(targets);
+        Gate { code, qubits }
+    }
+
+    pub fn controls_and_targets(&self) -> (&[u32], &[u32]) {
+        self.qubits.split_at(self.qubits.len() - targets(self.code))
     }
 
     pub fn inverse(&self) -> Gate {
@@ -59,14 +78,27 @@ impl Gate {
                 [ZERO, ZERO, ONE, ZERO],
                 [ZERO, ZERO, ZERO, -ONE],
             ]),
+            10 => self.where_all_controls_are_1(|target| target ^ 1),
+            11 => self.where_all_controls_are_1(|targets| targets >> 1 | (targets & 1) << 1),
             code => panic!("no gate has code {code}"),
         }
+    }
+
+    /// The matrix over the qubits named that changes the targets' bits where it may, and nothing elsewhere.
+    fn where_all_controls_are_1(&self, change: impl Fn(usize) -> usize) -> Matrix {
+        let size = 1 << self.qubits.len();
+        let target_bits = (1 << targets(self.code)) - 1;
+        Matrix::from_fn(size, |row, column| {
+            let controls_are_1 = column | target_bits == size - 1;
+            let image = if controls_are_1 { column & !target_bits | change(column & target_bits) } else { column };
+            if row == image { ONE } else { ZERO }
+        })
     }
 
     /// The gate's matrix on n qubits.
     pub fn full(&self, qubits: u32) -> Matrix {
         let small = self.small();
-        let named = self.qubits.iter().map(|&q| mask(qubits, q)).fold(0, |all, one| all | one);
+        let named = self.qubits.iter().map(|&q| bit(qubits, q)).fold(0, |all, one| all | one);
         Matrix::from_fn(1 << qubits, |row, column| {
             if (row ^ column) & !named != 0 {
                 ZERO
@@ -78,7 +110,7 @@ impl Gate {
 
     /// The bits of the qubits named, the first the most significant.
     fn named_bits(&self, qubits: u32, index: usize) -> usize {
-        self.qubits.iter().fold(0, |bits, &q| bits << 1 | usize::from(index & mask(qubits, q) != 0))
+        self.qubits.iter().fold(0, |bits, &q| bits << 1 | usize::from(index & bit(qubits, q) != 0))
     }
 }
 
@@ -88,7 +120,7 @@ fn phase(power: usize) -> Matrix {
 }
 
 /// Qubit q's bit in a row or column number: qubit 0 has the most significant.
-fn mask(qubits: u32, q: u32) -> usize {
+pub fn bit(qubits: u32, q: u32) -> usize {
     1 << (qubits - 1 - q)
 }
 

@@ -56,7 +56,7 @@ pub fn judge(call: &Call) -> Outcome {
     }
 }
 
-/// The refusals 1 to 12.
+/// The refusals 1 to 12 and 17.
 fn checked(call: &Call) -> Result<(Circuit, Circuit), Refusal> {
     if !(2..=32).contains(&call.w) {
         return Err(Refusal::Call { number: 1 });
@@ -138,9 +138,12 @@ pub fn proportional(m: usize, p: usize) -> Vec<u8> {
     schedule
 }
 
+/// The most bytes that the verdict program reads.
+pub const MOST_READ: usize = 57_344;
+
 /// The verdict program's line for an input, with its line feed.
 pub fn verdict_line(input: &[u8]) -> String {
-    let report = match split(&input[..input.len().min(32_768)]) {
+    let report = match split(&input[..input.len().min(MOST_READ)]) {
         Err(number) => Report::refused(Refusal::Byte { number, list: 0, offset: 0 }),
         Ok((list1, list2)) => judge(&program_call(list1, list2)).report,
     };

@@ -1,6 +1,6 @@
-//! A reader of gate lists, with the refusals 3 to 10.
+//! A reader of gate lists, with the refusals 3 to 10 and 17.
 
-use super::matrix::{CNOT, CODES, CZ, Gate};
+use super::matrix::{CNOT, CODES, CZ, FREDKIN, Gate, TOFFOLI, targets};
 
 /// A circuit: what a list's bytes say.
 #[derive(Clone, Debug, PartialEq, Eq)]
@@ -18,6 +18,10 @@ pub struct Fault {
 
 const MOST_QUBITS: u32 = 16;
 const MOST_GATES: u32 = 4096;
+
+/// How many controls a gate with a mask needs.
+pub const LEAST_OF_TOFFOLI: usize = 2;
+pub const LEAST_OF_FREDKIN: usize = 1;
 
 /// Reads a whole list.
 pub fn read_list(list: &[u8]) -> Result<Circuit, Fault> {
@@ -64,15 +68,30 @@ impl Reader<'_> {
 
     fn gate(&mut self, qubits: u32) -> Result<Gate, Fault> {
         let code = self.number_that(7, |code| code < CODES)?;
-        let first = self.number_that(8, |qubit| qubit < qubits)?;
-        if code != CNOT && code != CZ {
-            return Ok(Gate::new(code, &[first]));
+        let mut named = match code {
+            CNOT | CZ => vec![self.another(&[], qubits)?],
+            TOFFOLI => self.controls(LEAST_OF_TOFFOLI, qubits)?,
+            FREDKIN => self.controls(LEAST_OF_FREDKIN, qubits)?,
+            _ => Vec::new(),
+        };
+        for _ in 0..targets(code) {
+            named.push(self.another(&named, qubits)?);
         }
+        Ok(Gate { code, qubits: named })
+    }
+
+    /// A qubit besides those that the gate has named.
+    fn another(&mut self, named: &[u32], qubits: u32) -> Result<u32, Fault> {
         let offset = self.next;
-        let target = self.number_that(8, |qubit| qubit < qubits)?;
-        if target == first {
-            return Err(Fault { number: 9, offset });
-        }
-        Ok(Gate::new(code, &[first, target]))
+        let qubit = self.number_that(8, |qubit| qubit < qubits)?;
+        if named.contains(&qubit) { Err(Fault { number: 9, offset }) } else { Ok(qubit) }
+    }
+
+    /// The qubits of a mask, which has to name so many.
+    fn controls(&mut self, least: usize, qubits: u32) -> Result<Vec<u32>, Fault> {
+        let offset = self.next;
+        let mask = self.number_that(8, |mask| mask < 1 << qubits)?;
+        let controls: Vec<u32> = (0..qubits).filter(|qubit| mask >> qubit & 1 == 1).collect();
+        if controls.len() < least { Err(Fault { number: 17, offset }) } else { Ok(controls) }
     }
 }

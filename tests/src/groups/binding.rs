@@ -76,14 +76,15 @@ fn refused_limits(tally: &mut Tally) {
     }
 }
 
-/// Where no schedule can be made the list is refused.
+/// Where no schedule can be made, or none is looked at, the list is refused.
 fn unreadable_lists(tally: &mut Tally) {
-    let cases: [(&[u8], &[u8], &str); 6] = [
+    let cases: [(&[u8], &[u8], &str); 7] = [
         (&[], &[1, 0], "refused 3 list 1 byte 0"),
         (&[1], &[1, 0], "refused 3 list 1 byte 1"),
         (&[1, 0], &[1, 0x80], "refused 3 list 2 byte 1"),
         (&[1, 0x81, 0x80, 0], &[1, 0], "refused 4 list 1 byte 1"),
         (&[1, 0x81, 0x20], &[1, 0], "refused 6 list 1 byte 1"),
+        (&[3, 0], &[3, 1, 10, 0b001, 2], "refused 17 list 2 byte 3"),
         (&[1, 0], &[2, 0], "refused 11"),
     ];
     for (list1, list2, line) in cases {

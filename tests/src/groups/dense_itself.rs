@@ -3,17 +3,30 @@
 use gannetrope::Verdict;
 
 use crate::circuits::{random_circuit, rewritten, spoiled};
-use crate::dense::entry::Entry;
-use crate::dense::matrix::{CODES, Gate, Matrix};
+use crate::dense::entry::{Entry, ONE, ZERO};
+use crate::dense::matrix::{CNOT, CODES, CZ, Gate, Matrix, targets};
 use crate::dense::miter::{Miter, Run};
-use crate::dense::reader::Circuit;
+use crate::dense::reader::{Circuit, read_list};
 use crate::dense::{proportional, verdict_line};
 use crate::random::Random;
 use crate::tally::{Checked, Tally, alike};
 
+/// Lists of one gate with a mask on three qubits, and the row of the 1 in each column.
+const WRITTEN_OUT: [(&[u8], [usize; 8]); 6] = [
+    (&[3, 1, 10, 0b011, 2], [0, 1, 2, 3, 4, 5, 7, 6]),
+    (&[3, 1, 10, 0b101, 1], [0, 1, 2, 3, 4, 7, 6, 5]),
+    (&[3, 1, 10, 0b110, 0], [0, 1, 2, 7, 4, 5, 6, 3]),
+    (&[3, 1, 11, 0b001, 1, 2], [0, 1, 2, 3, 4, 6, 5, 7]),
+    (&[3, 1, 11, 0b010, 2, 0], [0, 1, 2, 6, 4, 5, 3, 7]),
+    (&[3, 1, 11, 0b100, 0, 1], [0, 1, 2, 5, 4, 3, 6, 7]),
+];
+
 pub fn run(tally: &mut Tally, seed: u64) {
     for code in 0..CODES {
         tally.case(&format!("inverse of code {code}"), || inverse_undoes(code));
+    }
+    for (list, rows) in WRITTEN_OUT {
+        tally.case(&format!("matrix of {list:?}"), || written_out(list, &rows));
     }
     tally.case("proportional schedule of 2 and 4", example_schedule);
     tally.case("the paper's input", example_input);
@@ -28,9 +41,14 @@ pub fn run(tally: &mut Tally, seed: u64) {
 
 /// A gate and its inverse, in both orders, make 1, or 2 over √2 twice.
 fn inverse_undoes(code: u32) -> Checked {
-    for qubits in [&[0, 1], &[1, 0], &[2, 0]] {
-        let named = if code < 8 { &qubits[..1] } else { &qubits[..] };
-        let gate = Gate::new(code, named);
+    let named = match code {
+        0..CNOT => 1,
+        CNOT | CZ => 2,
+        _ => 3,
+    };
+    for qubits in [[0, 1, 2], [1, 0, 2], [2, 0, 1], [2, 1, 0]] {
+        let (controls, targets) = qubits[..named].split_at(named - targets(code));
+        let gate = Gate::controlled(code, controls, targets);
         let (full, undone) = (gate.full(3), gate.inverse().full(3));
         let scale = Entry::whole(1 << gate.exponent());
         let identity = Matrix::identity(8);
@@ -40,6 +58,12 @@ fn inverse_undoes(code: u32) -> Checked {
         }
     }
     Ok(())
+}
+
+fn written_out(list: &[u8], rows: &[usize; 8]) -> Checked {
+    let circuit = read_list(list).map_err(|fault| format!("{fault:?}"))?;
+    let expected = Matrix::from_fn(8, |row, column| if row == rows[column] { ONE } else { ZERO });
+    if Miter::of_circuit(&circuit).matrix == expected { Ok(()) } else { Err(format!("another matrix of {circuit:?}")) }
 }
 
 fn example_schedule() -> Checked {

@@ -5,18 +5,19 @@ use std::process::Command;
 
 use crate::circuits::{X, list, on_one_qubit, random_circuit};
 use crate::dense::reader::{Circuit, read_list};
+use crate::groups::masks::faulty_lists;
 use crate::hex;
 use crate::random::Random;
 use crate::shell::{Folder, Ran, bash, run_on};
 use crate::tally::{Checked, Tally};
 
 /// The names that a text has for the gates, by their codes.
-const NAMES: [&str; 10] = ["x", "y", "z", "h", "s", "sdg", "t", "tdg", "cx", "cz"];
+const NAMES: [&str; 12] = ["x", "y", "z", "h", "s", "sdg", "t", "tdg", "cx", "cz", "mcx", "mcswap"];
 
 /// The status of a refused text or list.
 const REFUSED: i32 = 2;
 
-const EXAMPLES: [&str; 3] = ["toffoli", "toffoli-rewritten", "toffoli-wrong"];
+const EXAMPLES: [&str; 4] = ["toffoli", "toffoli-rewritten", "toffoli-wrong", "toffoli-gate"];
 
 /// The script, and a folder for what it is given.
 struct Script {
@@ -95,10 +96,14 @@ fn loose_texts(tally: &mut Tally, script: &Script) {
         let name = format!("text {text:?}");
         tally.case(&name, || script.check("encode", text.as_bytes(), &[2, 2, 3, 0, 8, 0, 1]));
     }
+    // controls are a set, targets are not
+    let text = "qubits 4\nmcx 2 0 3 1\nmcswap 3 1 2 0\nmcswap 1 3 0 2\n";
+    let list = [4, 3, 10, 0b1101, 1, 11, 0b1010, 2, 0, 11, 0b1010, 0, 2];
+    tally.case("text of controls in any order", || script.check("encode", text.as_bytes(), &list));
 }
 
 /// What a text must not have, the line where it shows, and what else the message says.
-const BAD_TEXTS: [(&str, &str, &str); 25] = [
+const BAD_TEXTS: [(&str, &str, &str); 41] = [
     ("", "line 1:", "'qubits N'"),
     ("h 0\n", "line 1:", "'qubits N'"),
     ("# nothing\n", "line 2:", "'qubits N'"),
@@ -124,6 +129,22 @@ const BAD_TEXTS: [(&str, &str, &str); 25] = [
     ("qubits 2\ncz 0 2\n", "line 2:", "refusal 8"),
     ("qubits 2\nh 0\ncx 1 1\n", "line 3:", "refusal 9"),
     ("qubits 2\nh 0\nh 1\0\nx 0\n", "line 3:", "NUL"),
+    ("qubits 3\nmcx\n", "line 2:", "3 or more qubits, not 0"),
+    ("qubits 3\nmcswap 1\n", "line 2:", "3 or more qubits, not 1"),
+    ("qubits 3\nmcx 2\n", "line 2:", "refusal 17"),
+    ("qubits 3\nmcx 0 2\n", "line 2:", "refusal 17"),
+    ("qubits 3\nmcx 0 0\n", "line 2:", "refusal 17"),
+    ("qubits 3\nmcx 0 3\n", "line 2:", "refusal 17"),
+    ("qubits 3\nmcswap 1 2\n", "line 2:", "refusal 17"),
+    ("qubits 3\nmcx 3 2\n", "line 2:", "refusal 8"),
+    ("qubits 3\nmcx 0 01 2\n", "line 2:", "refusal 8"),
+    ("qubits 3\nmcx 0 1 3\n", "line 2:", "refusal 8"),
+    ("qubits 3\nmcswap 0 1 3\n", "line 2:", "refusal 8"),
+    ("qubits 3\nmcx 0 1 1\n", "line 2:", "refusal 9"),
+    ("qubits 3\nmcswap 0 0 1\n", "line 2:", "refusal 9"),
+    ("qubits 3\nmcswap 0 1 0\n", "line 2:", "refusal 9"),
+    ("qubits 3\nmcswap 0 1 1\n", "line 2:", "refusal 9"),
+    ("qubits 4\nmcx 0 1 0 3\n", "line 2:", "control 0 is named twice"),
 ];
 
 fn bad_texts(tally: &mut Tally, script: &Script) {
@@ -137,11 +158,11 @@ fn bad_texts(tally: &mut Tally, script: &Script) {
 
 /// Every prefix of a list and many changes of it, against the dense program's reader.
 fn damaged_lists(tally: &mut Tally, script: &Script, seed: u64) {
-    let whole = list(&random_circuit(&mut Random::new(seed), 3, 4));
+    let whole = list(&random_circuit(&mut Random::new(seed), 3, 6));
     let prefixes = (0..whole.len()).map(|length| whole[..length].to_vec());
     tally.case(&format!("prefixes of a list, seed {seed}"), || check_all(script, prefixes));
     for place in 0..whole.len() {
-        let changed = [0, 1, 3, 4, 9, 10, 16, 17, 127, 128, 255].map(|byte| {
+        let changed = [0, 1, 3, 4, 9, 10, 11, 12, 16, 17, 127, 128, 255].map(|byte| {
             let mut damaged = whole.clone();
             damaged[place] = byte;
             damaged
@@ -159,6 +180,7 @@ fn damaged_lists(tally: &mut Tally, script: &Script, seed: u64) {
         &[1, 1, 0x8a, 1],
     ];
     tally.case("lists with numbers of many bytes", || check_all(script, counts.map(<[u8]>::to_vec)));
+    tally.case("lists with bad masks", || check_all(script, faulty_lists()));
 }
 
 fn check_all(script: &Script, lists: impl IntoIterator<Item = Vec<u8>>) -> Checked {

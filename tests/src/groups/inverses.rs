@@ -4,7 +4,7 @@ use std::thread;
 
 use gannetrope::{Limits, MOST_GATES, Refusal, Schedule, Verdict, fill_inverse, inverse, judge};
 
-use crate::circuits::{list, random_circuit};
+use crate::circuits::{list, longest, random_circuit};
 use crate::dense::inverse as dense;
 use crate::dense::reader::Circuit;
 use crate::groups::random_pairs::random_schedule;
@@ -75,7 +75,7 @@ fn damaged_lists(tally: &mut Tally, seed: u64) {
     tally.case(&format!("inverse of every prefix, seed {seed}"), || {
         (0..whole.len()).try_for_each(|length| check_damaged(&mut random, &whole[..length]))
     });
-    for byte in [0, 1, 2, 3, 8, 9, 10, 127, 128, 129, 255] {
+    for byte in [0, 1, 2, 3, 4, 7, 8, 9, 10, 11, 12, 127, 128, 129, 255] {
         let name = format!("inverse, each byte in turn {byte}, seed {seed}");
         tally.case(&name, || check_changed(&mut random, &whole, byte));
     }
@@ -104,7 +104,7 @@ fn check_damaged(random: &mut Random, bytes: &[u8]) -> Checked {
 // ---- a list followed by its inverse
 
 fn followed_lists(tally: &mut Tally, seed: u64) {
-    for qubits in 1..=4 {
+    for qubits in 1..=6 {
         for case in 0..10 {
             let case_seed = seed + 950_000 + 100 * u64::from(qubits) + case;
             let name = format!("followed by its inverse, {qubits} qubits, seed {case_seed}");
@@ -135,7 +135,7 @@ fn check_followed(random: &mut Random, qubits: u32) -> Checked {
 // ---- the stack
 
 fn on_a_short_stack() -> Checked {
-    let bytes = list(&random_circuit(&mut Random::new(1), 16, MOST_GATES as usize));
+    let bytes = list(&longest());
     let length = bytes.len();
     let written = thread::Builder::new()
         .stack_size(STACK)

@@ -3,8 +3,9 @@
 use std::path::Path;
 use std::process::Command;
 
-use crate::circuits::{S, T, list, on_one_qubit, random_circuit};
+use crate::circuits::{S, T, list, longest, on_one_qubit, random_circuit};
 use crate::dense::inverse::{fill_inverse, undone};
+use crate::groups::masks::faulty_lists;
 use crate::hex;
 use crate::random::Random;
 use crate::scripts::{LOST, Script, UNUSABLE, builds, failing_programs};
@@ -44,6 +45,10 @@ fn lists(tally: &mut Tally, folder: &Folder, program: &Path, seed: u64) {
             tally.case(&format!("{name}, {more} bytes more"), || check_list(folder, program, &longer));
         }
     }
+    tally.case("inverse program, the longest list", || check_list(folder, program, &list(&longest())));
+    tally.case("inverse program, lists with bad masks", || {
+        faulty_lists().try_for_each(|list| check_list(folder, program, &list))
+    });
     for bytes in [0, 1, 32_767, 32_768, 32_769, 3_000_000] {
         let zeros = vec![0; bytes];
         tally.case(&format!("inverse program, {bytes} zeros"), || check_list(folder, program, &zeros));

@@ -64,15 +64,6 @@ fn check_large(u: &Circuit, v: &Circuit) -> Checked {
 /// Taken in turns, a list and itself undo each other gate by gate, but for a 2 from each pair of H.
 fn check_itself(circuit: &Circuit) -> Checked {
     let gates = circuit.gates.len();
-    let h_gates = circuit.gates.iter().filter(|gate| gate.code == H).count() as u32;
-    let diagram = scaled_identity(circuit.qubits, Entry::whole(1 << h_gates));
-    let report = Report {
-        verdict: Verdict::Equal { factor: diagram.values[0].narrow() },
-        exponent: 2 * h_gates,
-        steps: 2 * gates as u32,
-        nodes: 3 * circuit.qubits,
-        values: 2,
-    };
     let call = Call {
         list1: list(circuit),
         list2: list(circuit),
@@ -81,7 +72,22 @@ fn check_itself(circuit: &Circuit) -> Checked {
         first: lengths(500, 20),
         second: lengths(500, 20),
     };
-    call::check(&call, 3, &Outcome { report, stores: Stores::Diagram(diagram) })
+    call::check(&call, 3, &same_operator(circuit, circuit))
+}
+
+/// What two circuits come to whose matrices are alike: each pair of H has brought a 2.
+pub fn same_operator(u: &Circuit, v: &Circuit) -> Outcome {
+    let gates = || u.gates.iter().chain(&v.gates);
+    let exponent: u32 = gates().map(Gate::exponent).sum();
+    let diagram = scaled_identity(u.qubits, Entry::whole(1 << (exponent / 2)));
+    let report = Report {
+        verdict: Verdict::Equal { factor: diagram.values[0].narrow() },
+        exponent,
+        steps: gates().count() as u32,
+        nodes: diagram.nodes.len() as u32,
+        values: diagram.values.len() as u32,
+    };
+    Outcome { report, stores: Stores::Diagram(diagram) }
 }
 
 /// Three nodes for each qubit, the last qubit's first.

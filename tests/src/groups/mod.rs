@@ -1,6 +1,7 @@
 //! The groups of cases.
 
 pub mod binding;
+pub mod controls;
 pub mod damage;
 pub mod dense_itself;
 pub mod documentation;
@@ -11,6 +12,7 @@ pub mod invert;
 pub mod judge;
 pub mod many_qubits;
 pub mod map;
+pub mod masks;
 pub mod one_answer;
 pub mod paper;
 pub mod places;

@@ -13,7 +13,7 @@ const PROMPT: &str = "$ ";
 
 /// How the head of the table of refusals begins, and the last number that it must have.
 const REFUSALS: &str = "| No. |";
-const LAST_REFUSAL: usize = 16;
+const LAST_REFUSAL: usize = 17;
 
 pub fn run(tally: &mut Tally, home: &Path, library: &Path, verdict: &Program, inverse: &Path) {
     let readme = fs::read_to_string(home.join("../README.md")).expect("README.md");

@@ -9,8 +9,8 @@ use std::time::Duration;
 use gannetrope::{MOST_SLOTS, Refusal, Report, Verdict};
 
 use crate::call::{self, Lent};
-use crate::circuits::{S, S_INVERSE, T, T_INVERSE, list};
-use crate::dense::matrix::{CNOT, Gate, H};
+use crate::circuits::{S, S_INVERSE, T, T_INVERSE, list, random_gate_of};
+use crate::dense::matrix::{CNOT, FREDKIN, Gate, H, TOFFOLI};
 use crate::dense::miter::{Needs, Run};
 use crate::dense::reader::{Circuit, read_list};
 use crate::dense::{Call, Outcome, Stores, lengths, outcome, proportional, split};
@@ -139,12 +139,15 @@ struct Late {
 }
 
 impl Late {
-    /// A full layer, then phases on parities, each on any side.
+    /// A full layer, then phases on parities, each on any side; half of them end with a gate of many controls.
     fn random(random: &mut Random, qubits: u32) -> Late {
         let mut late = Late { qubits, gates: Vec::new(), schedule: Vec::new() };
         late.extend(random.below(2) as u8, full_layer(qubits, || *random.pick(&[S, S_INVERSE])));
         for _ in 0..random.between(1, 3) {
             late.extend(random.below(2) as u8, phase_on_parity(random, qubits));
+        }
+        if let Some(code) = *random.pick(&[None, None, Some(TOFFOLI), Some(FREDKIN)]) {
+            late.extend(random.below(2) as u8, vec![random_gate_of(random, code, qubits)]);
         }
         late
     }

@@ -6,7 +6,7 @@ use std::path::Path;
 use gannetrope::{MOST_GATES, MOST_SLOTS};
 
 use crate::circuits::{S, T, list, program_input, random_circuit};
-use crate::dense::matrix::{Gate, H};
+use crate::dense::matrix::{FREDKIN, Gate, H, TOFFOLI};
 use crate::dense::reader::Circuit;
 use crate::dense::{self, Call, lengths};
 use crate::groups::slow::full_layer;
@@ -29,6 +29,9 @@ const LAYER_VALUES: usize = 5;
 /// What the layer's matrix comes to: its entries are 1, i, −1 and −i.
 const LAYER_LINE: &str =
     "different row 0 column 1 entry 0 1 0 0 corner 0 0 0 1 exponent 16 steps 32 nodes 180 values 4";
+
+/// What the layer and two gates of many controls come to against themselves.
+const CONTROLLED_LINE: &str = "equal factor 0 0 0 65536 exponent 32 steps 68 nodes 48 values 2";
 
 /// The H on one qubit that bring a number out of width 32.
 const TOO_MANY_H: usize = 62;
@@ -95,10 +98,18 @@ fn layer_and(more: &[Gate]) -> Circuit {
     Circuit { qubits: QUBITS, gates: [&full_layer(QUBITS, || S), more].concat() }
 }
 
+/// A Fredkin and a Toffoli gate that name every qubit.
+fn many_controls() -> [Gate; 2] {
+    let inner: Vec<u32> = (1..QUBITS - 1).collect();
+    let swap = Gate::controlled(FREDKIN, &inner, &[QUBITS - 1, 0]);
+    [swap, Gate::controlled(TOFFOLI, &[&inner[..], &[QUBITS - 1]].concat(), &[0])]
+}
+
 fn runs(most: usize) -> Vec<Case> {
     let none = Circuit { qubits: QUBITS, gates: Vec::new() };
     let layer = layer_and(&[]);
     let split = layer_and(&[Gate::new(T, &[0])]);
+    let controlled = layer_and(&many_controls());
     let too_wide = layer_and(&vec![Gate::new(H, &[0]); TOO_MANY_H - 1]);
     let equal = "equal factor 0 0 0 65536 exponent 32 steps 66 nodes 48 values 2";
     let out_of_width = format!("refused 13 steps {}", too_wide.gates.len() - 1);
@@ -106,6 +117,7 @@ fn runs(most: usize) -> Vec<Case> {
     let case = |name, call, line: &str| Case { name, call, line: line.to_string() };
     vec![
         case("equal", call(&split, &split, most, most), equal),
+        case("equal, many controls", call(&controlled, &controlled, most, most), CONTROLLED_LINE),
         case("different", call(&layer, &none, most, most), LAYER_LINE),
         case("refused 13", call(&too_wide, &none, most, most), &out_of_width),
         case("refused 14 for nodes", call(&split, &none, LAYER_NODES, most), &out_of_room),

@@ -7,7 +7,7 @@ use gannetrope::{Entry, Node, Refusal, Report, Verdict, fill_inverse, fill_propo
 use crate::call;
 use crate::dense::diagram::Diagram;
 use crate::dense::miter::MOST_QUBITS;
-use crate::dense::reader::{read_list, read_number};
+use crate::dense::reader::read_list;
 use crate::dense::{self, Call, Outcome, Stores};
 use crate::hex;
 use crate::json::Json;
@@ -15,22 +15,22 @@ use crate::program::Program;
 use crate::tally::{Checked, Tally, alike};
 
 pub fn run(tally: &mut Tally, directory: &Path, program: &Program) {
-    for vector in lines(directory, "api-stage00.jsonl") {
-        tally.case(vector.text("name"), || check_call(&vector));
-    }
-    for vector in lines(directory, "schedule.jsonl") {
-        tally.case(vector.text("name"), || check_schedule(&vector));
-    }
-    for vector in lines(directory, "inverse-stage01.jsonl") {
-        tally.case(vector.text("name"), || check_inverse(&vector));
-    }
-    for vector in lines(directory, "verdict-stage00.jsonl") {
-        tally.case(vector.text("name"), || check_line(&vector, program));
-    }
+    let mut all = |file: &str, check: &dyn Fn(&Json) -> Checked| {
+        for vector in lines(directory, file) {
+            tally.case(&format!("{file}, {}", vector.text("name")), || check(&vector));
+        }
+    };
+    all("api-stage00", &check_call);
+    all("api-stage02", &check_call);
+    all("schedule", &check_schedule);
+    all("inverse-stage01", &check_inverse);
+    all("inverse-stage02", &check_inverse);
+    all("verdict-stage00", &|vector| check_line(vector, program));
+    all("verdict-stage02", &|vector| check_line(vector, program));
 }
 
 fn lines(directory: &Path, file: &str) -> Vec<Json> {
-    let path = directory.join(file);
+    let path = directory.join(file).with_extension("jsonl");
     let text = std::fs::read_to_string(&path).unwrap_or_else(|error| panic!("{}: {error}", path.display()));
     text.lines().map(Json::parse).collect()
 }
@@ -162,9 +162,5 @@ fn check_line(vector: &Json, program: &Program) -> Checked {
 }
 
 fn program_lists_are_small(input: &[u8]) -> bool {
-    let Ok((length, bytes)) = read_number(input) else { return true };
-    match input[bytes..].split_at_checked(length as usize) {
-        Some((list1, list2)) => small(list1, list2),
-        None => true,
-    }
+    dense::split(input).map_or(true, |(list1, list2)| small(list1, list2))
 }

@@ -3,16 +3,14 @@
 use std::os::unix::process::ExitStatusExt;
 use std::process::ExitStatus;
 
-use crate::circuits::{list, on_one_qubit, program_input, random_circuit, write_number};
+use crate::circuits::{list, longest, on_one_qubit, program_input, random_circuit, write_number};
 use crate::dense::matrix::H;
-use crate::dense::verdict_line;
+use crate::dense::{MOST_READ, verdict_line};
+use crate::groups::masks::faulty_lists;
 use crate::groups::random_pairs::random_pair;
 use crate::program::Program;
 use crate::random::Random;
 use crate::tally::{Checked, Tally, alike};
-
-/// The most bytes that the program reads.
-const MOST_BYTES: usize = 32_768;
 
 const SIGPIPE: i32 = 13;
 
@@ -43,18 +41,20 @@ fn random_inputs(tally: &mut Tally, program: &Program, seed: u64) {
 /// All damages of a kind are one case.
 fn damaged_inputs(tally: &mut Tally, program: &Program, seed: u64) {
     let mut random = Random::new(seed);
-    let (u, v) = (random_circuit(&mut random, 2, 4), random_circuit(&mut random, 2, 3));
+    let (u, v) = (random_circuit(&mut random, 3, 8), random_circuit(&mut random, 3, 6));
     let whole = program_input(&list(&u), &list(&v));
     let prefixes = (0..whole.len()).map(|length| whole[..length].to_vec());
     tally.case(&format!("program, prefixes, seed {seed}"), || check_all(program, prefixes));
     for place in 0..whole.len() {
-        let changed = [0, 1, 2, 3, 8, 9, 16, 17, 127, 128, 255].map(|byte| {
+        let changed = [0, 1, 2, 3, 8, 9, 10, 11, 12, 16, 17, 127, 128, 255].map(|byte| {
             let mut damaged = whole.clone();
             damaged[place] = byte;
             damaged
         });
         tally.case(&format!("program, byte {place} changed, seed {seed}"), || check_all(program, changed));
     }
+    let with_faults = faulty_lists().flat_map(|list| [program_input(&list, &[3, 0]), program_input(&[3, 0], &list)]);
+    tally.case("program, lists with bad masks", || check_all(program, with_faults));
     let lengths: [&[u8]; 6] =
         [&[0x80], &[0x80, 0x80], &[0x80, 0x80, 0x80], &[0x80, 0], &[0x81, 0x80, 0], &[0xff, 0xff, 0x7f]];
     for length in lengths {
@@ -77,8 +77,8 @@ fn slow_inputs(tally: &mut Tally, program: &Program, seed: u64) {
         let name = format!("program, pieces of {piece}, seed {seed}");
         tally.case(&name, || program.check_in_pieces(&short, piece, &verdict_line(&short)));
     }
-    let long = padded(MOST_BYTES + 9000);
-    for piece in [1000, 4096, MOST_BYTES - 1] {
+    let long = padded(MOST_READ + 9000);
+    for piece in [1000, 4096, MOST_READ - 1] {
         let name = format!("program, long input in pieces of {piece}");
         tally.case(&name, || program.check_in_pieces(&long, piece, &verdict_line(&long)));
     }
@@ -101,12 +101,16 @@ fn declared(list1_length: u32, input_length: usize) -> Vec<u8> {
 }
 
 fn long_inputs(tally: &mut Tally, program: &Program) {
-    let left = MOST_BYTES as u32 - 3;
+    let left = MOST_READ as u32 - 3;
     let cases = [
-        ("of just 32,768 bytes", padded(MOST_BYTES), "refused 10 list 2 byte 2\n"),
+        ("of 57,343 bytes", padded(57_343), "refused 10 list 2 byte 2\n"),
+        ("of 57,344 bytes", padded(57_344), "refused 10 list 2 byte 2\n"),
+        ("of 57,345 bytes", padded(57_345), "refused 10 list 2 byte 2\n"),
         ("of 100,000 bytes", padded(100_000), "refused 10 list 2 byte 2\n"),
-        ("with a list to the last byte read", declared(left, MOST_BYTES + 500), "refused 10 list 1 byte 6\n"),
-        ("with a list past the last byte read", declared(left + 1, MOST_BYTES + 500), "refused 3 list 0 byte 0\n"),
+        ("with a list to its last byte", declared(left, MOST_READ), "refused 10 list 1 byte 6\n"),
+        ("with a list past its last byte", declared(left, MOST_READ - 1), "refused 3 list 0 byte 0\n"),
+        ("with a list to the last byte read", declared(left, MOST_READ + 500), "refused 10 list 1 byte 6\n"),
+        ("with a list past the last byte read", declared(left + 1, MOST_READ + 500), "refused 3 list 0 byte 0\n"),
         ("with the longest length", declared((1 << 21) - 1, 3_000_000), "refused 3 list 0 byte 0\n"),
     ];
     for (name, input, line) in cases {
@@ -117,6 +121,14 @@ fn long_inputs(tally: &mut Tally, program: &Program) {
     let longest = on_one_qubit(&[2; 4096]);
     let input = program_input(&list(&longest), &list(&longest));
     tally.case("program, two lists of 4,096 gates", || check(program, &input));
+    tally.case("program, the two longest lists", || check_longest(program));
+}
+
+fn check_longest(program: &Program) -> Checked {
+    let longest = list(&longest());
+    alike("bytes of a list", longest.len(), 24_579)?;
+    let line = "equal factor 0 0 0 1 exponent 0 steps 8192 nodes 48 values 2\n";
+    program.check(&program_input(&longest, &longest), line)
 }
 
 /// An input that cannot be read is like an empty one.
