@@ -2,6 +2,7 @@
 
 use crate::agreement::{self, Agreement};
 use crate::families::{self, Case};
+use crate::gate_steps;
 use crate::inputs;
 use crate::inverses;
 use crate::late_refusals::{self, LateRefusal};
@@ -13,7 +14,7 @@ use std::fs;
 use std::io;
 use std::path::PathBuf;
 
-/// Checks the families, the late refusals, the inverses, and the files of `INPUTS` if it is set. The last line that it
+/// Checks the families, the late refusals, the steps by gate, the inverses, and the files of `INPUTS` if it is set. The last line that it
 /// prints is 'N passed, M failed'; it gives whether all is well.
 pub fn all() -> io::Result<bool> {
     let mut checker = Checker { program: program::path(), passed: 0, failed: 0 };
@@ -25,6 +26,9 @@ pub fn all() -> io::Result<bool> {
     }
     for late in late_refusals::all() {
         checker.check_late_refusal(&late);
+    }
+    for trial in gate_steps::all() {
+        checker.check_pair(&trial.name(), &trial.once(), |_| Ok(()));
     }
     for undoing in inverses::all() {
         checker.count(&undoing.name(), undoing.check());

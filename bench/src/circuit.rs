@@ -3,7 +3,7 @@
 use gannetrope::MOST_GATES;
 
 /// The most qubits that a list may have.
-const MOST_QUBITS: u8 = 16;
+pub const MOST_QUBITS: u8 = 16;
 
 /// How many bits of a number a byte holds.
 const GROUP_BITS: usize = 7;
@@ -28,14 +28,41 @@ pub enum Code {
     Tdg,
     Cnot,
     Cz,
+    Toffoli,
+    Fredkin,
 }
 
 impl Code {
-    pub const ALL: [Code; 10] =
-        [Code::X, Code::Y, Code::Z, Code::H, Code::S, Code::Sdg, Code::T, Code::Tdg, Code::Cnot, Code::Cz];
+    pub const ALL: [Code; 12] = [
+        Code::X,
+        Code::Y,
+        Code::Z,
+        Code::H,
+        Code::S,
+        Code::Sdg,
+        Code::T,
+        Code::Tdg,
+        Code::Cnot,
+        Code::Cz,
+        Code::Toffoli,
+        Code::Fredkin,
+    ];
 
-    pub fn has_control(self) -> bool {
-        matches!(self, Code::Cnot | Code::Cz)
+    /// The codes without a mask of controls.
+    pub const UNMASKED: &'static [Code] = Code::ALL.split_at(Code::Toffoli as usize).0;
+
+    /// How many controls a gate of this code has at least.
+    pub fn least_controls(self) -> u32 {
+        match self {
+            Code::Toffoli => 2,
+            Code::Fredkin | Code::Cnot | Code::Cz => 1,
+            _ => 0,
+        }
+    }
+
+    /// How many targets a gate of this code has.
+    pub fn targets(self) -> usize {
+        if self == Code::Fredkin { 2 } else { 1 }
     }
 
     pub fn inverse(self) -> Code {
@@ -49,20 +76,41 @@ impl Code {
     }
 }
 
+/// The mask of one qubit: bit q names qubit q.
+pub const fn bit(qubit: u8) -> u32 {
+    1 << qubit
+}
+
+/// The mask of several qubits.
+pub fn mask(qubits: &[u8]) -> u32 {
+    qubits.iter().map(|&qubit| bit(qubit)).sum()
+}
+
 #[derive(Clone, Copy, PartialEq, Eq, Debug)]
 pub struct Gate {
     pub code: Code,
-    pub control: Option<u8>,
+    /// The mask of the controls.
+    pub controls: u32,
     pub target: u8,
+    /// The qubit that the target is swapped with.
+    pub second: Option<u8>,
 }
 
 impl Gate {
-    pub fn one(code: Code, target: u8) -> Gate {
-        Gate { code, control: None, target }
+    pub const fn one(code: Code, target: u8) -> Gate {
+        Gate { code, controls: 0, target, second: None }
     }
 
-    pub fn two(code: Code, control: u8, target: u8) -> Gate {
-        Gate { code, control: Some(control), target }
+    pub const fn two(code: Code, control: u8, target: u8) -> Gate {
+        Gate { code, controls: bit(control), target, second: None }
+    }
+
+    pub const fn toffoli(controls: u32, target: u8) -> Gate {
+        Gate { code: Code::Toffoli, controls, target, second: None }
+    }
+
+    pub const fn fredkin(controls: u32, (target, second): (u8, u8)) -> Gate {
+        Gate { code: Code::Fredkin, controls, target, second: Some(second) }
     }
 
     /// The gate that undoes this one.
@@ -70,13 +118,43 @@ impl Gate {
         Gate { code: self.code.inverse(), ..self }
     }
 
-    pub fn names(self, qubit: u8) -> bool {
-        self.target == qubit || self.control == Some(qubit)
+    /// The first of the controls.
+    pub fn control(self) -> u8 {
+        self.controls.trailing_zeros() as u8
+    }
+
+    fn targets(self) -> u32 {
+        bit(self.target) | self.second.map_or(0, bit)
+    }
+
+    /// The mask of all qubits that the gate names.
+    pub fn named(self) -> u32 {
+        self.controls | self.targets()
     }
 
     /// Whether the two gates name no common qubit, so that their order does not matter.
     pub fn is_apart_from(self, other: Gate) -> bool {
-        !self.names(other.target) && !other.control.is_some_and(|control| self.names(control))
+        self.named() & other.named() == 0
+    }
+
+    /// Whether no qubit is named twice and the controls are enough.
+    fn is_well_formed(self) -> bool {
+        self.second != Some(self.target)
+            && self.controls & self.targets() == 0
+            && self.controls.count_ones() >= self.code.least_controls()
+    }
+
+    fn encode(self, bytes: &mut Vec<u8>) {
+        put_number(self.code as usize, bytes);
+        match self.code {
+            Code::Cnot | Code::Cz => put_number(usize::from(self.control()), bytes),
+            Code::Toffoli | Code::Fredkin => put_number(self.controls as usize, bytes),
+            _ => (),
+        }
+        put_number(usize::from(self.target), bytes);
+        if let Some(second) = self.second {
+            put_number(usize::from(second), bytes);
+        }
     }
 }
 
@@ -96,16 +174,12 @@ impl Circuit {
         put_number(usize::from(self.qubits), &mut bytes);
         put_number(self.gates.len(), &mut bytes);
         for gate in &self.gates {
-            put_number(gate.code as usize, &mut bytes);
-            if let Some(control) = gate.control {
-                put_number(usize::from(control), &mut bytes);
-            }
-            put_number(usize::from(gate.target), &mut bytes);
+            gate.encode(&mut bytes);
         }
         bytes
     }
 
-    /// The list that the bytes write down; `None` if they are not one with the codes 0 to 9.
+    /// The list that the bytes write down; `None` if they are not one.
     pub fn decode(bytes: &[u8]) -> Option<Circuit> {
         let mut reader = Reader { bytes };
         let qubits = u8::try_from(reader.number()?).ok()?;
@@ -163,9 +237,20 @@ impl Reader<'_> {
 
     fn gate(&mut self, qubits: u8) -> Option<Gate> {
         let code = *Code::ALL.get(self.number()?)?;
-        let control = if code.has_control() { Some(self.qubit(qubits)?) } else { None };
+        let controls = match code {
+            Code::Cnot | Code::Cz => bit(self.qubit(qubits)?),
+            Code::Toffoli | Code::Fredkin => self.mask(qubits)?,
+            _ => 0,
+        };
         let target = self.qubit(qubits)?;
-        (control != Some(target)).then_some(Gate { code, control, target })
+        let second = if code == Code::Fredkin { Some(self.qubit(qubits)?) } else { None };
+        let gate = Gate { code, controls, target, second };
+        gate.is_well_formed().then_some(gate)
+    }
+
+    fn mask(&mut self, qubits: u8) -> Option<u32> {
+        let mask = u32::try_from(self.number()?).ok()?;
+        (mask < bit(qubits)).then_some(mask)
     }
 
     fn qubit(&mut self, qubits: u8) -> Option<u8> {
@@ -197,8 +282,24 @@ mod tests {
     }
 
     #[test]
+    fn masks_read_back() {
+        let gates = vec![Gate::toffoli(0b1_0000_0001, 2), Gate::fredkin(0b10, (8, 0))];
+        let circuit = Circuit { qubits: 9, gates };
+        assert_eq!(circuit.encode(), [9, 2, 10, 129, 2, 2, 11, 2, 8, 0]);
+        assert_eq!(Circuit::decode(&circuit.encode()), Some(circuit));
+    }
+
+    #[test]
     fn an_unknown_code_is_no_list() {
-        assert_eq!(Circuit::decode(&[1, 1, 10, 0, 0]), None);
+        assert_eq!(Circuit::decode(&[3, 1, 12, 3, 2]), None);
+    }
+
+    #[test]
+    fn a_mask_with_too_few_or_unfit_qubits_is_no_list() {
+        for gate in [&[10, 1, 2][..], &[10, 9, 2], &[10, 3, 1], &[11, 0, 1, 2], &[11, 1, 2, 2], &[11, 1, 0, 2]] {
+            let list = [&[3, 1], gate].concat();
+            assert_eq!(Circuit::decode(&list), None, "{gate:?}");
+        }
     }
 
     #[test]

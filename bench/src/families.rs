@@ -1,13 +1,16 @@
 //! The circuit pairs that are timed, all made by seed.
 
 use crate::agreement::Agreement;
-use crate::circuit::{Circuit, Code, Gate};
+use crate::circuit::{Circuit, Code, Gate, mask};
+use crate::many_controls;
 use crate::random::Random;
-use crate::rewrite::{changed, inverted, reordered, rewritten};
+use crate::rewrite::{changed, reordered, rewritten};
+use crate::toffoli;
 use crate::verdict;
 use gannetrope::Report;
 
 /// A pair of lists, and what it shows.
+#[derive(Clone)]
 pub struct Case {
     pub family: &'static str,
     /// How the second list came about.
@@ -61,11 +64,12 @@ pub fn all() -> Vec<Case> {
         }
     }
     cases.extend(BLOW_UPS.map(blow_up));
+    cases.extend(many_controls::all());
     cases
 }
 
 /// An equal list against the first, and that list with one changed gate.
-fn pairs(
+pub fn pairs(
     family: &'static str,
     first: Circuit,
     (equal_is, equal): (&'static str, Circuit),
@@ -77,14 +81,26 @@ fn pairs(
     [case(equal_is, equal, true), case("one changed", different, false)]
 }
 
+/// A gate of one of these codes, with as few controls as it may have.
 fn random_gate(qubits: u8, codes: &[Code], random: &mut Random) -> Gate {
     let code = random.pick(codes);
-    if code.has_control() {
-        let (control, target) = random.two_qubits(qubits);
-        Gate::two(code, control, target)
-    } else {
-        Gate::one(code, random.qubit(qubits))
+    match code {
+        Code::Cnot | Code::Cz => {
+            let (control, target) = random.two_qubits(qubits);
+            Gate::two(code, control, target)
+        }
+        Code::Toffoli | Code::Fredkin => masked_gate(code, qubits, code.least_controls() as usize, random),
+        _ => Gate::one(code, random.qubit(qubits)),
     }
+}
+
+/// A Toffoli or Fredkin gate with so many controls.
+pub fn masked_gate(code: Code, qubits: u8, controls: usize, random: &mut Random) -> Gate {
+    let targets = code.targets();
+    let named = random.some_qubits(qubits, controls + targets);
+    let (targets, controls) = named.split_at(targets);
+    let second = targets.get(1).copied();
+    Gate { code, controls: mask(controls), target: targets[0], second }
 }
 
 /// A list of random gates of these codes.
@@ -100,7 +116,7 @@ fn random_pairs(qubits: u8) -> Vec<Case> {
         let seed = 1000 * gates_per_qubit + u64::from(qubits);
         let random = &mut Random::new(seed);
         let count = gates_per_qubit as usize * usize::from(qubits);
-        let first = random_list(qubits, count, &Code::ALL, random);
+        let first = random_list(qubits, count, Code::UNMASKED, random);
         let equal = rewritten(&first, 30, random);
         cases.extend(pairs("random", first, ("rewritten", equal), random));
     }
@@ -138,35 +154,8 @@ fn bernstein_vazirani_pairs(qubits: u8) -> [Case; 2] {
     pairs("Bernstein-Vazirani", circuit(full), ("rewritten", equal), random)
 }
 
-/// The Clifford+T network of a Toffoli gate.
-fn toffoli(a: u8, b: u8, t: u8) -> Vec<Gate> {
-    let cnot = |control, target| Gate::two(Code::Cnot, control, target);
-    vec![
-        Gate::one(Code::H, t),
-        cnot(b, t),
-        Gate::one(Code::Tdg, t),
-        cnot(a, t),
-        Gate::one(Code::T, t),
-        cnot(b, t),
-        Gate::one(Code::Tdg, t),
-        cnot(a, t),
-        Gate::one(Code::T, b),
-        Gate::one(Code::T, t),
-        Gate::one(Code::H, t),
-        cnot(a, b),
-        Gate::one(Code::T, a),
-        Gate::one(Code::Tdg, b),
-        cnot(a, b),
-    ]
-}
-
-/// Another network of the same gate: it is symmetric in its controls and undoes itself.
-fn other_toffoli(a: u8, b: u8, t: u8) -> Vec<Gate> {
-    inverted(&toffoli(b, a, t))
-}
-
 /// A ripple-carry adder after Cuccaro: carry in, pairs of bits, carry out.
-fn adder(qubits: u8, toffoli: fn(u8, u8, u8) -> Vec<Gate>) -> Circuit {
+pub fn adder(qubits: u8, toffoli: fn(u8, u8, u8) -> Vec<Gate>) -> Circuit {
     let cnot = |control, target| Gate::two(Code::Cnot, control, target);
     let bits = (qubits - 2) / 2;
     // of each bit: the carry into it, and the bits of the two numbers
@@ -186,15 +175,15 @@ fn adder(qubits: u8, toffoli: fn(u8, u8, u8) -> Vec<Gate>) -> Circuit {
 
 fn adder_pairs(qubits: u8) -> [Case; 2] {
     let random = &mut Random::new(400 + u64::from(qubits));
-    let first = adder(qubits, toffoli);
-    let equal = adder(qubits, other_toffoli);
+    let first = adder(qubits, toffoli::network);
+    let equal = adder(qubits, toffoli::other_network);
     pairs("adder", first, ("networks", equal), random)
 }
 
 /// Long lists: phases, permutations and a few H gates, against another order.
 fn deep_pairs(qubits: u8, count: usize) -> [Case; 2] {
     let random = &mut Random::new(500 + 10 * count as u64 + u64::from(qubits));
-    let without_h: Vec<Code> = Code::ALL.into_iter().filter(|&code| code != Code::H).collect();
+    let without_h: Vec<Code> = Code::UNMASKED.iter().copied().filter(|&code| code != Code::H).collect();
     let mut first = random_list(qubits, count, &without_h, random);
     for _ in 0..12 {
         let place = random.below(count);

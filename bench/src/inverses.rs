@@ -15,20 +15,30 @@ const SIZES: [usize; 5] = [16, 64, 256, 1024, 4096];
 
 const SEED: u64 = 7;
 
-/// A list of random gates, and how many they are.
+/// A list of random gates, how many they are, and of how many codes.
 pub struct Undoing {
-    pub gates: usize,
+    gates: usize,
+    codes: usize,
     list: Vec<u8>,
 }
 
+/// Lists without masks of controls, and lists of all codes.
 pub fn all() -> Vec<Undoing> {
+    [Code::UNMASKED, &Code::ALL].into_iter().flat_map(of_codes).collect()
+}
+
+fn of_codes(codes: &[Code]) -> Vec<Undoing> {
     let random = &mut Random::new(SEED);
-    SIZES.map(|gates| Undoing { gates, list: random_list(QUBITS, gates, &Code::ALL, random).encode() }).into()
+    let undoing = |gates| {
+        let list = random_list(QUBITS, gates, codes, random).encode();
+        Undoing { gates, codes: codes.len(), list }
+    };
+    SIZES.map(undoing).into()
 }
 
 impl Undoing {
     pub fn name(&self) -> String {
-        format!("inverse of {} gates", self.gates)
+        format!("inverse of {} gates of {} codes", self.gates, self.codes)
     }
 
     /// Whether both writers give the same bytes.
@@ -45,7 +55,10 @@ impl Undoing {
 }
 
 pub fn heading() -> String {
-    format!("{:>6} {:>6} {:>10} {:>8} {:>10} {:>6}", "gates", "bytes", "proved us", "ns/gate", "plain us", "ratio")
+    format!(
+        "{:>5} {:>6} {:>6} {:>10} {:>8} {:>10} {:>6}",
+        "codes", "gates", "bytes", "proved us", "ns/gate", "plain us", "ratio"
+    )
 }
 
 /// Times the list and gives its line, or what differs.
@@ -55,7 +68,8 @@ pub fn measure(undoing: &Undoing) -> Result<String, String> {
     let (library, plain) = in_turns(library, || fastest(|| undoing.plain()));
     undoing.check().map_err(|wrong| format!("{}: {wrong}", undoing.name()))?;
     Ok(format!(
-        "{:>6} {:>6} {:>10.2} {:>8.2} {:>10.2} {:>6.3}",
+        "{:>5} {:>6} {:>6} {:>10.2} {:>8.2} {:>10.2} {:>6.3}",
+        undoing.codes,
         undoing.gates,
         undoing.list.len(),
         microseconds(library),

@@ -1,7 +1,7 @@
 //! Late, dense refusals: runs whose last step is refused for want of room, over a diagram that nearly fills the store.
 
 use crate::agreement::Agreement;
-use crate::circuit::{Circuit, Code, Gate};
+use crate::circuit::{Circuit, Code, Gate, bit};
 use crate::pair::{Pair, Step, steps};
 use crate::random::Random;
 use crate::rewrite::inverted;
@@ -64,7 +64,7 @@ impl LateRefusal {
 pub fn all() -> Vec<LateRefusal> {
     let mut refusals = vec![h_layer_then_t()];
     refusals.extend(RECIPES.map(dense));
-    refusals.extend(H_RECIPES.map(|(recipe, qubit)| dense_then_h(recipe, qubit)));
+    refusals.extend(PAIRING_RECIPES.map(|(recipe, gate)| dense_then(recipe, gate)));
     refusals
 }
 
@@ -113,13 +113,26 @@ const RECIPES: [Recipe; 19] = [
     Recipe { qubits: 16, layers: 1, gates: (46, 46), seed: 28, nodes: 4096, values: 8 },
 ];
 
-/// Of many those on which an H after the first list, on the qubit beside the recipe, takes long against the step before.
-const H_RECIPES: [(Recipe, u8); 5] = [
-    (Recipe { qubits: 14, layers: 1, gates: (83, 0), seed: 108, nodes: 4096, values: 1024 }, 2),
-    (Recipe { qubits: 14, layers: 1, gates: (85, 0), seed: 118, nodes: 4096, values: 1024 }, 6),
-    (Recipe { qubits: 16, layers: 1, gates: (97, 0), seed: 126, nodes: 4096, values: 1024 }, 0),
-    (Recipe { qubits: 16, layers: 1, gates: (78, 0), seed: 7, nodes: 4096, values: 1024 }, 3),
-    (Recipe { qubits: 10, layers: 2, gates: (99, 0), seed: 6, nodes: 4096, values: 1024 }, 5),
+/// Of many those on which the gate beside the recipe, after the first list, takes long against the step before: an H, or a
+/// Toffoli or Fredkin gate with controls below a target or between the two.
+const PAIRING_RECIPES: [(Recipe, Gate); 8] = [
+    (Recipe { qubits: 14, layers: 1, gates: (83, 0), seed: 108, nodes: 4096, values: 1024 }, Gate::one(Code::H, 2)),
+    (Recipe { qubits: 14, layers: 1, gates: (85, 0), seed: 118, nodes: 4096, values: 1024 }, Gate::one(Code::H, 6)),
+    (Recipe { qubits: 16, layers: 1, gates: (97, 0), seed: 126, nodes: 4096, values: 1024 }, Gate::one(Code::H, 0)),
+    (Recipe { qubits: 16, layers: 1, gates: (78, 0), seed: 7, nodes: 4096, values: 1024 }, Gate::one(Code::H, 3)),
+    (Recipe { qubits: 10, layers: 2, gates: (99, 0), seed: 6, nodes: 4096, values: 1024 }, Gate::one(Code::H, 5)),
+    (
+        Recipe { qubits: 16, layers: 1, gates: (102, 0), seed: 3, nodes: 4096, values: 1024 },
+        Gate::toffoli(bit(14) | bit(15), 0),
+    ),
+    (
+        Recipe { qubits: 16, layers: 1, gates: (88, 0), seed: 1, nodes: 4096, values: 1024 },
+        Gate::fredkin(bit(0), (1, 15)),
+    ),
+    (
+        Recipe { qubits: 16, layers: 1, gates: (83, 0), seed: 4, nodes: 4096, values: 1024 },
+        Gate::fredkin(bit(15), (5, 10)),
+    ),
 ];
 
 impl Recipe {
@@ -138,9 +151,9 @@ fn dense(recipe: Recipe) -> LateRefusal {
     LateRefusal::new(&first, &second, recipe.limits())
 }
 
-fn dense_then_h(recipe: Recipe, qubit: u8) -> LateRefusal {
+fn dense_then(recipe: Recipe, gate: Gate) -> LateRefusal {
     let (mut first, second) = recipe.lists();
-    first.gates.push(Gate::one(Code::H, qubit));
+    first.gates.push(gate);
     LateRefusal::new(&first, &second, recipe.limits())
 }
 
@@ -199,7 +212,7 @@ mod tests {
     #[test]
     fn gates_of_every_kind_are_refused() {
         let refused: Vec<Code> = all().iter().map(LateRefusal::refused_gate).collect();
-        for code in [Code::H, Code::T, Code::Tdg, Code::Cnot] {
+        for code in [Code::H, Code::T, Code::Tdg, Code::Cnot, Code::Toffoli, Code::Fredkin] {
             assert!(refused.contains(&code), "{code:?} in {refused:?}");
         }
     }

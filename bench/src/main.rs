@@ -9,12 +9,14 @@ mod check;
 mod circuit;
 mod comparison;
 mod families;
+mod gate_steps;
 mod hashed;
 mod inputs;
 mod inverses;
 mod late_refusals;
 mod lent;
 mod machine;
+mod many_controls;
 mod pair;
 mod processor;
 mod program;
@@ -23,6 +25,7 @@ mod reference;
 mod refused_steps;
 mod rewrite;
 mod timing;
+mod toffoli;
 mod verdict;
 
 use reference::Reference;
@@ -55,6 +58,7 @@ fn measure() -> io::Result<bool> {
     let mut failures = Vec::new();
     measure_families(&mut failures);
     measure_refusals(&mut failures);
+    measure_gate_steps(&mut failures);
     measure_inverses(&mut failures);
     match Reference::from_environment() {
         Some(reference) => reference.compare(&mut failures)?,
@@ -82,6 +86,14 @@ fn measure_refusals(failures: &mut Vec<String>) {
     let refusals = late_refusals::all();
     let rows = successes(refusals.iter().map(refused_steps::measure), failures);
     print_or_note(refused_steps::summary(&rows), failures);
+    println!();
+}
+
+fn measure_gate_steps(failures: &mut Vec<String>) {
+    println!("steps by gate\n{}", gate_steps::heading());
+    for trial in gate_steps::all() {
+        print_or_note(gate_steps::measure(&trial), failures);
+    }
     println!();
 }
 

@@ -46,7 +46,7 @@ impl Pair {
         }
     }
 
-    /// The pair of an input of the verdict program; `None` if its lists are not of the codes 0 to 9 on as many qubits.
+    /// The pair of an input of the verdict program; `None` if its lists are not well formed and on as many qubits.
     pub fn from_input(input: &[u8]) -> Option<Pair> {
         let (list1, list2) = split_lists(input)?;
         let (first, second) = (Circuit::decode(list1)?, Circuit::decode(list2)?);

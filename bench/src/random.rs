@@ -38,4 +38,10 @@ impl Random {
         let second = self.qubit(qubits - 1);
         (first, if second < first { second } else { second + 1 })
     }
+
+    /// So many different qubits, in any order.
+    pub fn some_qubits(&mut self, qubits: u8, count: usize) -> Vec<u8> {
+        let mut left: Vec<u8> = (0..qubits).collect();
+        (0..count).map(|_| left.swap_remove(self.below(left.len()))).collect()
+    }
 }

@@ -2,6 +2,7 @@
 
 use crate::circuit::{Circuit, Code, Gate};
 use crate::random::Random;
+use crate::toffoli::{fredkin_templates, toffoli_templates};
 
 /// With so many H gates in both lists together, every number of a miter lies within 32 bits.
 pub const MOST_H: usize = 61;
@@ -42,8 +43,10 @@ fn templates(gate: Gate) -> Vec<Vec<Gate>> {
         Code::Sdg => vec![all(&[Code::Tdg, Code::Tdg]), all(&[Code::Z, Code::S])],
         Code::T => vec![all(&[Code::S, Code::Tdg])],
         Code::Tdg => vec![all(&[Code::Sdg, Code::T])],
-        Code::Cnot => cnot_templates(gate.control.expect("a control"), q),
-        Code::Cz => cz_templates(gate.control.expect("a control"), q),
+        Code::Cnot => cnot_templates(gate.control(), q),
+        Code::Cz => cz_templates(gate.control(), q),
+        Code::Toffoli => toffoli_templates(gate),
+        Code::Fredkin => fredkin_templates(gate, (q, second_target(gate))),
     }
 }
 
@@ -77,18 +80,24 @@ pub fn reordered(circuit: &Circuit, random: &mut Random) -> Circuit {
         }
     }
     for gate in &mut gates {
-        if let (Code::Cz, Some(control)) = (gate.code, gate.control) {
-            *gate = Gate::two(Code::Cz, gate.target, control);
+        if gate.code == Code::Cz {
+            *gate = Gate::two(Code::Cz, gate.target, gate.control());
         }
     }
     Circuit { qubits: circuit.qubits, gates }
 }
 
-/// The list with one gate's code changed. No two codes have proportional matrices, so it is never equal.
+/// The list with one gate changed. No two codes have proportional matrices, so it is never equal.
 pub fn changed(circuit: &Circuit, random: &mut Random) -> Circuit {
     let mut gates = circuit.gates.clone();
     let gate = &mut gates[random.below(circuit.gates.len())];
-    gate.code = match gate.code {
+    *gate = other(*gate);
+    Circuit { qubits: circuit.qubits, gates }
+}
+
+/// A gate with another code on the same qubits or some of them.
+fn other(gate: Gate) -> Gate {
+    let code = match gate.code {
         Code::X => Code::Y,
         Code::Y => Code::Z,
         Code::Z => Code::S,
@@ -99,8 +108,14 @@ pub fn changed(circuit: &Circuit, random: &mut Random) -> Circuit {
         Code::Tdg => Code::Z,
         Code::Cnot => Code::Cz,
         Code::Cz => Code::Cnot,
+        Code::Toffoli => return Gate::two(Code::Cnot, gate.control(), gate.target),
+        Code::Fredkin => return Gate::two(Code::Cnot, second_target(gate), gate.target),
     };
-    Circuit { qubits: circuit.qubits, gates }
+    Gate { code, ..gate }
+}
+
+fn second_target(fredkin: Gate) -> u8 {
+    fredkin.second.expect("a second target")
 }
 
 /// The list that undoes this one.
@@ -119,13 +134,20 @@ mod tests {
         Pair::new(first, second).judge_by_hash_maps(LARGEST).report.verdict
     }
 
+    /// A gate of each code, with as few controls as it may have, and gates with more of them.
     fn every_gate() -> Vec<Gate> {
-        let gate = |code: Code| Gate { code, control: code.has_control().then_some(0), target: 1 };
-        Code::ALL.map(gate).to_vec()
+        let gate = |code: Code| match code.least_controls() {
+            0 => Gate::one(code, 1),
+            _ => Gate::two(code, 0, 1),
+        };
+        let mut gates: Vec<Gate> = Code::UNMASKED.iter().map(|&code| gate(code)).collect();
+        gates.extend([0b101, 0b1101].map(|controls| Gate::toffoli(controls, 1)));
+        gates.extend([0b1, 0b1001].map(|controls| Gate::fredkin(controls, (2, 1))));
+        gates
     }
 
     fn alone(gates: Vec<Gate>) -> Circuit {
-        Circuit { qubits: 2, gates }
+        Circuit { qubits: 4, gates }
     }
 
     #[test]

@@ -1,7 +1,7 @@
 //! One step: the product of a diagram and a gate, by a walk that goes low before high.
 
 use super::diagram::{Builder, Diagram, PAST_ALL, Reference};
-use crate::circuit::{Code, Gate};
+use crate::circuit::{Code, Gate, MOST_QUBITS, bit};
 use gannetrope::Entry;
 use std::collections::HashMap;
 use std::ops::RangeInclusive;
@@ -15,9 +15,9 @@ pub enum Side {
     Right,
 }
 
-/// A gate as data: where it asks, and what it does at its target.
+/// A gate as data: where it asks, and what it does at its targets.
 pub struct Action {
-    /// The levels of control and target, as they come.
+    /// The levels of controls and targets, as they come.
     sites: Vec<Site>,
     effect: Effect,
 }
@@ -34,14 +34,17 @@ enum Effect {
     Mix,
     /// The cofactor of the bit, or of the other bit, times w8 to the power that stands for the bit.
     Turn { flips: bool, powers: [u8; 2] },
+    /// The cofactor of the two targets' bits in exchanged places.
+    Swap,
 }
 
 impl Action {
     pub fn new(gate: Gate, side: Side) -> Action {
-        let level = |qubit: u8| 2 * u32::from(qubit) + u32::from(side == Side::Right);
-        let mut sites = vec![Site { level: level(gate.target), is_target: true }];
-        sites.extend(gate.control.map(|control| Site { level: level(control), is_target: false }));
-        sites.sort_by_key(|site| site.level);
+        let site = |qubit: u8| Site {
+            level: 2 * u32::from(qubit) + u32::from(side == Side::Right),
+            is_target: gate.controls & bit(qubit) == 0,
+        };
+        let sites = (0..MOST_QUBITS).filter(|&qubit| gate.named() & bit(qubit) != 0).map(site).collect();
         let code = match side {
             Side::Left => gate.code,
             Side::Right => gate.code.inverse(),
@@ -54,7 +57,7 @@ fn effect(code: Code, side: Side) -> Effect {
     let diagonal = |power| Effect::Turn { flips: false, powers: [0, power] };
     let flip = |powers| Effect::Turn { flips: true, powers };
     match code {
-        Code::X | Code::Cnot => flip([0, 0]),
+        Code::X | Code::Cnot | Code::Toffoli => flip([0, 0]),
         Code::Y => flip(match side {
             Side::Left => [6, 2],
             Side::Right => [2, 6],
@@ -65,6 +68,7 @@ fn effect(code: Code, side: Side) -> Effect {
         Code::T => diagonal(1),
         Code::Tdg => diagonal(7),
         Code::H => Effect::Mix,
+        Code::Fredkin => Effect::Swap,
     }
 }
 
@@ -81,6 +85,8 @@ enum Mode {
     /// The gate's sites from this one on are still to come: if every control among them is 1, y acted on and turned;
     /// else x.
     Acting { site: u8, power: u8 },
+    /// The same of a swap between its targets, the first of which had this bit in x and the other one in y.
+    Swapping { site: u8, seen: bool },
     /// y times a power of w8; x is y.
     Turned { power: u8 },
     /// x + y.
@@ -136,7 +142,7 @@ impl Walk<'_> {
     /// The first level that a reference or the gate asks about.
     fn level(&self, state: State) -> u32 {
         let of_gate = match state.mode {
-            Mode::Acting { site, .. } => self.action.sites[usize::from(site)].level,
+            Mode::Acting { site, .. } | Mode::Swapping { site, .. } => self.action.sites[usize::from(site)].level,
             _ => PAST_ALL,
         };
         let of_references = self.source.level(state.x).min(self.source.level(state.y));
@@ -148,7 +154,7 @@ impl Walk<'_> {
         let x = self.source.cofactor(state.x, level, bit);
         let y = self.source.cofactor(state.y, level, bit);
         let mode = state.mode;
-        let Mode::Acting { site, power } = mode else {
+        let (Mode::Acting { site, .. } | Mode::Swapping { site, .. }) = mode else {
             return State { x, y, mode };
         };
         let here = self.action.sites[usize::from(site)];
@@ -160,7 +166,7 @@ impl Walk<'_> {
         }
         match bit {
             false => turned(x, 0),
-            true => self.past_site(x, y, site, power),
+            true => self.past_site(x, y, mode),
         }
     }
 
@@ -169,18 +175,27 @@ impl Walk<'_> {
         match (self.action.effect, state.mode) {
             (Effect::Turn { flips, powers }, Mode::Acting { site, power }) => {
                 let power = (power + powers[usize::from(bit)]) % 8;
-                self.past_site(x, y_at(bit ^ flips), site, power)
+                self.past_site(x, y_at(bit ^ flips), Mode::Acting { site, power })
+            }
+            (Effect::Swap, Mode::Acting { site, .. }) => {
+                self.past_site(x, y_at(!bit), Mode::Swapping { site, seen: bit })
+            }
+            (Effect::Swap, Mode::Swapping { seen, .. }) if seen == bit => turned(x, 0),
+            (Effect::Swap, Mode::Swapping { site, seen }) => {
+                self.past_site(x, y_at(seen), Mode::Acting { site, power: 0 })
             }
             _ => State { x: y_at(false), y: y_at(true), mode: if bit { Mode::Minus } else { Mode::Plus } },
         }
     }
 
-    fn past_site(&self, x: Reference, y: Reference, site: u8, power: u8) -> State {
-        let site = site + 1;
-        if usize::from(site) == self.action.sites.len() {
-            return turned(y, power);
+    /// The state after the site of its mode.
+    fn past_site(&self, x: Reference, y: Reference, mode: Mode) -> State {
+        match mode {
+            Mode::Acting { site, power } if usize::from(site) + 1 == self.action.sites.len() => turned(y, power),
+            Mode::Acting { site, power } => State { x, y, mode: Mode::Acting { site: site + 1, power } },
+            Mode::Swapping { site, seen } => State { x, y, mode: Mode::Swapping { site: site + 1, seen } },
+            _ => unreachable!("the gate has acted"),
         }
-        State { x, y, mode: Mode::Acting { site, power } }
     }
 
     /// The value of a state with no question left; outside the width it is noted, and does not matter.
@@ -191,7 +206,7 @@ impl Walk<'_> {
             Mode::Plus => std::array::from_fn(|i| x[i] + y[i]),
             Mode::Minus => std::array::from_fn(|i| x[i] - y[i]),
             Mode::Turned { power } => times_root(y, power),
-            Mode::Acting { .. } => unreachable!("the gate still asks"),
+            Mode::Acting { .. } | Mode::Swapping { .. } => unreachable!("the gate still asks"),
         };
         if numbers.iter().any(|number| !self.range.contains(number)) {
             self.inside = false;

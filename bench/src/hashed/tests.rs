@@ -64,6 +64,23 @@ fn two_qubits() {
     );
 }
 
+/// Three qubits: qubit 0 is the highest bit of a row.
+#[test]
+fn masks() {
+    assert_eq!(
+        line(&[3, 1, 10, 0b011, 2], &[3, 0], LARGEST),
+        "different row 6 column 6 entry 0 0 0 0 corner 0 0 0 1 exponent 0 steps 1 nodes 12 values 2"
+    );
+    assert_eq!(
+        line(&[3, 1, 11, 0b001, 1, 2], &[3, 0], LARGEST),
+        "different row 5 column 5 entry 0 0 0 0 corner 0 0 0 1 exponent 0 steps 1 nodes 16 values 2"
+    );
+    assert_eq!(
+        line(&[3, 1, 11, 0b001, 1, 2], &[3, 3, 8, 1, 2, 10, 0b101, 1, 8, 1, 2], LARGEST),
+        "equal factor 0 0 0 1 exponent 0 steps 4 nodes 9 values 2"
+    );
+}
+
 #[test]
 fn widths() {
     assert_eq!(one_qubit_line(&[H, H], &[], width(2)), "refused 13 steps 1");

@@ -18,9 +18,6 @@ use Rattle.choices.specs.Choosing.{Power, Named}
 pub power-of : (q : ℕ) → q < 16 → Power q (1 * 2 ^ q % 4294967296)
 power-of q small = let e = shifted q small in let most = pow-mono {i = q} {j = 15} (omega arith) in (omega (arith, e, most), λ h. e)
 
-pub no-power : (q : ℕ) → 16 ≤ q → Power q 0
-no-power q past = (omega arith, λ h. absurd (omega arith))
-
 -- ---- what follows a gate's code tells its form
 
 abbrev form : Operands → ℕ

@@ -1,9 +1,10 @@
 -- What a step lays out before its walk: the plan's slots, the sizes of its tables, the tables cleared. Definitions only.
 use mathlib.Core.Path.{_≡_}
-use mathlib.Core.Bool.{Bool, cond}
+use mathlib.Core.Bool.{Bool, cond, _||_}
 use mathlib.Core.List.{List}
 use Prim.Native.Nat.{ℕ, _+_, _*_, _<_, _≤_, max}
 use lib.ListN.{length, set}
+use Rattle.gates.specs.declared.Rule.{Rule}
 use Rattle.gates.specs.Gate.{Gate, Fits}
 use Rattle.gates.specs.Rule.{gate-rule, target, second}
 use Rattle.stores.specs.Columns.{zeroed}
@@ -29,23 +30,26 @@ pub record Acts (n : ℕ) (right : Bool) (g : Gate) (action : Action) : Type 0 w
 
 -- ---- the plan
 
--- how many nodes the computed table is sized for: a gate that mixes makes pairs of references, several for a node of the source
+-- how many nodes the computed table is sized for: a gate that mixes or swaps makes pairs of references, several for a node of the source
+abbrev pub pairs : Rule → Bool
+pairs rule = rule .mixes || rule .swaps
+
 abbrev pub paired : Bool → ℕ → ℕ
-paired mixes nodes = cond mixes (4 * nodes) nodes
+paired pairs nodes = cond pairs (4 * nodes) nodes
 
 -- the slots past the gate's: the source's zero, the heads of the unique tables and the slots of the computed table, the width, the
 -- levels, the numbers that a reference lies below, and the source's counts
 unfoldable pub laid-out : Bool → ℕ → ℕ → Sizes → Used → List ℕ → List ℕ
-laid-out mixes zero levels sizes used l =
+laid-out pairs zero levels sizes used l =
     let l₁ = set (set l 23 zero) 24 (table-size (used .nodes) 64 (sizes .heads)) in
-    let l₂ = set (set l₁ 25 (table-size (used .values) 16 (sizes .heads))) 26 (table-size (paired mixes (used .nodes)) 256 (sizes .slots)) in
+    let l₂ = set (set l₁ 25 (table-size (used .values) 16 (sizes .heads))) 26 (table-size (paired pairs (used .nodes)) 64 (sizes .slots)) in
     let l₃ = set (set (set l₂ 27 (sizes .width)) 28 levels) 29 (2 * max (used .nodes) (used .values)) in
     set (set l₃ 30 (used .nodes)) 31 (used .values)
 
 unfoldable pub planned : Action → ℕ → Sizes → Used → ℕ → List ℕ → List ℕ
 planned action n sizes used zero l =
     prepared (action .rule) (action .side) (action .named) (action .low) (action .high)
-    (laid-out (action .rule .mixes) zero (2 * n) sizes used l)
+    (laid-out (pairs (action .rule)) zero (2 * n) sizes used l)
 
 -- what planning asks, so that its numbers fit
 pub record Planning (action : Action) (n : ℕ) (used : Used) : Type 0 where

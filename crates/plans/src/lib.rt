@@ -24,7 +24,7 @@ ghost use lib.Count.{ones};
 ghost use lib.Seq.{sets};
 ghost use Rattle.stores.specs.Columns.{entries-of, zero-ref, ValueColumns};
 ghost use Rattle.plans.specs.Prepare.{as-number, side-phases, action-number, levels-from, with-action, with-stages, prepared};
-ghost use Rattle.plans.specs.Layout.{paired, laid-out, planned, Planning, Roomy, Cleared};
+ghost use Rattle.plans.specs.Layout.{pairs, paired, laid-out, planned, Planning, Roomy, Cleared};
 
 // The slots of the plan that hold the counts of the source's nodes and values.
 const SOURCE_NODES: usize = 30;
@@ -36,7 +36,7 @@ const LEAST_NODE_HEADS: u32 = 64;
 
 const LEAST_VALUE_HEADS: u32 = 16;
 
-const LEAST_SLOTS: u32 = 256;
+const LEAST_SLOTS: u32 = 64;
 
 // A gate put on the left (side 0) or on the right (side 1), by its data, the mask of the qubits that it names, and its targets, the lower
 // one first; a gate with one target has it twice.
@@ -164,24 +164,34 @@ fn wide(x: u32) -> usize
     x as usize
 }
 
-// How many nodes the computed table is sized for: pairs of references, which a gate that mixes makes, are several to a node.
-fn paired(mixes: bool, nodes: u32) -> u32
-    requires { ⌜ nodes ≤ 65536 ⌝ }
-    ensures { λ r. ⌜ r ≡ paired mixes nodes ⌝ }
+// Whether a gate makes pairs of references.
+fn pairs(rule: Rule) -> bool
+    ensures { λ r. ⌜ r ≡ pairs rule ⌝ }
 {
-    if mixes { 4 * nodes } else { nodes }
+    if rule.mixes {
+        return true;
+    }
+    rule.swaps
+}
+
+// How many nodes the computed table is sized for: pairs of references are several to a node.
+fn paired(pairs: bool, nodes: u32) -> u32
+    requires { ⌜ nodes ≤ 65536 ⌝ }
+    ensures { λ r. ⌜ r ≡ paired pairs nodes ⌝ }
+{
+    if pairs { 4 * nodes } else { nodes }
 }
 
 // What a plan holds beside its gate: the source's zero and counts, the sizes of the tables, the width and the levels.
-fn lay_out(mixes: bool, zero: u32, levels: u32, sizes: Sizes, used: Used, plan: &mut [u32; 32])
+fn lay_out(pairs: bool, zero: u32, levels: u32, sizes: Sizes, used: Used, plan: &mut [u32; 32])
     requires { ⌜ (used .nodes ≤ 65536) × (used .values ≤ 65536) ⌝ }
-    ensures { λ _. ⌜ now (plan .exit) ≡ laid-out mixes zero levels sizes used (now (plan .entry)) ⌝ }
+    ensures { λ _. ⌜ now (plan .exit) ≡ laid-out pairs zero levels sizes used (now (plan .entry)) ⌝ }
 {
     plan[ZERO] = zero;
     plan[NODE_HEADS] = tables::table_size(used.nodes, LEAST_NODE_HEADS, sizes.heads);
     plan[VALUE_HEADS] = tables::table_size(used.values, LEAST_VALUE_HEADS, sizes.heads);
-    let pairs = paired(mixes, used.nodes);
-    plan[SLOTS] = tables::table_size(pairs, LEAST_SLOTS, sizes.slots);
+    let counted = paired(pairs, used.nodes);
+    plan[SLOTS] = tables::table_size(counted, LEAST_SLOTS, sizes.slots);
     plan[WIDTH] = sizes.width;
     plan[LEVELS] = levels;
     plan[SPAN] = 2 * larger(used.nodes, used.values);
@@ -208,7 +218,7 @@ pub fn plan_step(
 {
     let zero = stores::zero_of(a, b, c, d, used.values);
     let rule = action.rule;
-    lay_out(rule.mixes, zero, 2 * n, sizes, used, plan);
+    lay_out(pairs(rule), zero, 2 * n, sizes, used, plan);
     prepare(
         rule,
         action.side,

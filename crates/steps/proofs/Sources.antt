@@ -36,7 +36,7 @@ use Rattle.products.specs.Step as product
 use Rattle.plans.specs.declared.Action.{Action}
 use Rattle.plans.specs.declared.Sizes.{Sizes}
 use Rattle.plans.specs.declared.Used.{Used}
-use Rattle.plans.specs.Layout.{paired, planned, Planning, Roomy, Cleared}
+use Rattle.plans.specs.Layout.{pairs, paired, planned, Planning, Roomy, Cleared}
 use Rattle.steps.specs.Walking.{Walked}
 use Rattle.steps.specs.Stepping.{Task, Took, lent-with}
 use Rattle.steps.specs.Stepping as stepping
@@ -131,7 +131,7 @@ module _ {action : Action} {n : ℕ} {sizes : Sizes} {used : Used} {source desti
     long : length (replicate {A = ℕ} 32 0) ≡ 32
     long = length-replicate {A = ℕ} 32 0
 
-    slots : Slots plan (action .rule .mixes) zero-here (2 * n) sizes used
+    slots : Slots plan (pairs (action .rule)) zero-here (2 * n) sizes used
     slots = rw is (slots-planned action n sizes used zero-here (replicate 32 0) long (task .acts .small-named))
 
     for-gate : PlanFor n (task .right) (task .gate) (plan-of plan)
@@ -150,9 +150,9 @@ module _ {action : Action} {n : ℕ} {sizes : Sizes} {used : Used} {source desti
 
     table-fits : TableFits (plan-of plan) memo
     table-fits =
-        let pairs = paired (action .rule .mixes) (used .nodes) in
-        let some-slots = table-size-some pairs 256 (sizes .slots) (omega arith) (task .scratch .some-slots) in
-        let slots-limit = table-size-limit pairs 256 (sizes .slots) in
+        let nodes-counted = paired (pairs (action .rule)) (used .nodes) in
+        let some-slots = table-size-some nodes-counted 64 (sizes .slots) (omega arith) (task .scratch .some-slots) in
+        let slots-limit = table-size-limit nodes-counted 64 (sizes .slots) in
         record {
           sizes = record {
             some-slots = omega (arith, slots .of-slots, some-slots);

@@ -8,6 +8,9 @@ use Rattle.plans.proofs.plan_step.Tie as tie
 zero-of-requires : tie.Need-zero-of-requires
 zero-of-requires c κs = search needs
 
+pairs-requires : tie.Need-pairs-requires
+pairs-requires c κs = search needs
+
 mul-lay-out : tie.Need-mul-lay-out
 mul-lay-out c = search needs
 
@@ -19,12 +22,13 @@ prepare-requires c κs = search needs
 
 returns : tie.Need-returns
 returns c =
-    let l = c .before .before in
-    let z = l .before .before .before in
-    let e = z .before in
-    plans (e .args .action) (e .args .n) (e .args .sizes) (e .args .used) _ _ (z .zero-of .ensures) (l .lay-out .ensures)
-    (c .prepare .ensures)
+    let laid = c .before .before in
+    let sized = laid .before .before in
+    let zero = sized .before .before in
+    let start = zero .before in
+    plans (start .args .action) (start .args .n) (start .args .sizes) (start .args .used) _ _ (zero .zero-of .ensures)
+    (sized .pairs .ensures) (laid .lay-out .ensures) (c .prepare .ensures)
 
 pub plan-step-spec : {M : Type 1} → statement M
 plan-step-spec =
-    tie.close (tie.spec zero-of-requires mul-lay-out lay-out-requires prepare-requires returns)
+    tie.close (tie.spec zero-of-requires pairs-requires mul-lay-out lay-out-requires prepare-requires returns)
