@@ -14,8 +14,8 @@ use std::fs;
 use std::io;
 use std::path::PathBuf;
 
-/// Checks the families, the late refusals, the steps by gate, the inverses, and the files of `INPUTS` if it is set. The last line that it
-/// prints is 'N passed, M failed'; it gives whether all is well.
+/// Checks the families, the late refusals, the steps by gate, the inverses, and the files of `INPUTS` if it is set. The
+/// last line that it prints is 'N passed, M failed'; it gives whether all is well.
 pub fn all() -> io::Result<bool> {
     let mut checker = Checker { program: program::path(), passed: 0, failed: 0 };
     if checker.program.is_none() {

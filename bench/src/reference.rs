@@ -173,7 +173,7 @@ fn summary(rows: &[Row], skipped: usize) -> String {
     let of = |wanted: &dyn Fn(&&Row) -> bool| -> Vec<f64> { rows.iter().filter(wanted).map(|row| row.ratio).collect() };
     text += &mean_line("all", &of(&|_| true));
     text += &mean_line("all answered", &of(&|row| !row.refused));
-    text += &format!("  {skipped} files skipped: other gate codes\n");
+    text += &format!("  {skipped} files skipped: no inputs of the verdict program\n");
     text
 }
 
