@@ -16,7 +16,7 @@ use Rattle.algebra.proofs.Matrices.{Alike, scaled, product-alike, _≈⟨_⟩_,
 use Rattle.gates.specs.Gate.{Kind, X, Y, Z, H, S, S†, T, T†, Pair, CNOT, CZ, Gate, on, pair, toffoli, fredkin}
 use Rattle.gates.specs.Gate.{is, bit, agree, in-mask, all-set, matrix, Fits, inverse, inverse-kind, halves}
 use Rattle.gates.specs.Rule.{left-matrix, gate-rule, kind-rule, pair-rule, toffoli-rule}
-use Rattle.gates.proofs.Naming.{is-refl, is-apart, without-self, all-set-set, agree-none, agree-without, agree-set}
+use Rattle.gates.proofs.Naming.{is-refl, is-apart, all-set-set, agree-same, agree-set}
 use Rattle.gates.proofs.Rules.{four}
 use Rattle.gates.proofs.LocalRules.{where-set, on-target, row-times, on-target-sum, line-of, matrix-left, all-set-none}
 use Rattle.gates.proofs.Swaps.{swapped-twice, swapped-line, swapped-sum}
@@ -84,9 +84,6 @@ on-target-product n m m′ P q h free r c e =
         cond (agree (is q) r c) (column b) 𝟘 ∎
 
 -- ---- gates
-
-agree-same : (q : ℕ) (r c : Bits) → q < length r → (agree (is q) r c && Bool·beq (bit r q) (bit c q)) ≡ same r c
-agree-same q r c h = agree-without (is q) r c q h ∙ ap (λ named. agree named r c) (without-self q) ∙ agree-none r c
 
 -- a small matrix on a target that is no control, times one that undoes it
 on-target-undone : (n : ℕ) (m m′ : Bool → Bool → Entry) (P : ℕ → Bool) (q k : ℕ) → q < n → P q ≡ false

@@ -45,7 +45,7 @@ either false b e = inr e
 abbrev pub without : (ℕ → Bool) → ℕ → ℕ → Bool
 without named q i = named i && not (is q i)
 
-pub without-self : (q : ℕ) → without (is q) q ≡ (λ i. false)
+without-self : (q : ℕ) → without (is q) q ≡ (λ i. false)
 without-self q = fun-ext (λ i. and-not-self (is q i))
 
 -- a set of names without those of P, where the others are not in P
@@ -150,7 +150,7 @@ agree-sym named [] (y ∷ c) = refl
 agree-sym named (x ∷ r) [] = refl
 agree-sym named (x ∷ r) (y ∷ c) = ap₂ (λ b k. (named 0 || b) && k) (beq-sym x y) (agree-sym (λ i. named (suc i)) r c)
 
-pub agree-none : (r c : Bits) → agree (λ i. false) r c ≡ same r c
+agree-none : (r c : Bits) → agree (λ i. false) r c ≡ same r c
 agree-none [] [] = refl
 agree-none [] (y ∷ c) = refl
 agree-none (x ∷ r) [] = refl
@@ -170,6 +170,10 @@ agree-without named (x ∷ r) (y ∷ c) zero h = simp and-true (here (named 0) (
 agree-without named (x ∷ r) (y ∷ c) (suc q) h =
     and-assoc (named 0 || Bool·beq x y) (agree (λ i. named (suc i)) r c) (Bool·beq (bit r q) (bit c q))
     ∙ ap₂ (λ a k. (a || Bool·beq x y) && k) (sym (and-true (named 0))) (agree-without (λ i. named (suc i)) r c q (omega arith))
+
+-- to agree in the only qubit that is named too is to be the same
+pub agree-same : (q : ℕ) (r c : Bits) → q < length r → (agree (is q) r c && Bool·beq (bit r q) (bit c q)) ≡ same r c
+agree-same q r c h = agree-without (is q) r c q h ∙ ap (λ named. agree named r c) (without-self q) ∙ agree-none r c
 
 -- to set a named bit changes no agreement
 pub agree-set : (named : ℕ → Bool) (r c : Bits) (q : ℕ) (b : Bool) → named q ≡ true → agree named (set r q b) c ≡ agree named r c

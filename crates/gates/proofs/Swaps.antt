@@ -13,8 +13,8 @@ use Rattle.algebra.proofs.Rings.{one-mul}
 use Rattle.algebra.proofs.Entries.{entries, cond-⊗}
 use Rattle.algebra.proofs.Sums.{same-refl, same-sound, total-ext, total-pick}
 use Rattle.gates.specs.Gate.{is, bit, agree, agree-in, all-set, exchanged}
-use Rattle.gates.proofs.Naming.{is-refl, is-sound, either, without-self, without-first, without-controls, exchanged-twice, exchanged-one}
-use Rattle.gates.proofs.Naming.{exchanged-other, all-set-exchanged, agree-and, agree-none, agree-set, agree-without}
+use Rattle.gates.proofs.Naming.{is-refl, is-sound, either, without-first, without-controls, exchanged-twice, exchanged-one, exchanged-other}
+use Rattle.gates.proofs.Naming.{all-set-exchanged, agree-and, agree-same, agree-set, agree-without}
 
 module _ (P : ℕ → Bool) (p q : ℕ) where
   abbrev pub swapped : Bits → Bits
@@ -69,8 +69,7 @@ module _ (P : ℕ → Bool) (p q : ℕ) where
       agree-both l hl kl =
           sym (and-assoc (agree both l c) (Bool·beq (bit l p) (bit c p)) (Bool·beq (bit l q) (bit c q)))
           ∙ ap (λ b. b && Bool·beq (bit l q) (bit c q)) (agree-without both l c p hl ∙ ap (λ n. agree n l c) (without-first p q apart))
-          ∙ agree-without (is q) l c q kl
-          ∙ ap (λ n. agree n l c) (without-self q) ∙ agree-none l c
+          ∙ agree-same q l c kl
 
       pub swap-agrees : let active = all-set P r in
           (agree (λ i. P i || both i) r c && (agree-in P r c
