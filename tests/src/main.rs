@@ -41,7 +41,7 @@ fn run_groups() -> ExitCode {
     let seed = env::var("GANNETROPE_SEED").map_or(1, |seed| seed.parse().expect("a seed is a number"));
     println!("seed {seed}");
 
-    let groups: [Group; 24] = [
+    let groups: [Group; 25] = [
         ("dense", Box::new(|tally| groups::dense_itself::run(tally, seed))),
         ("paper", Box::new(groups::paper::run)),
         ("refusals", Box::new(|tally| groups::refusals::run(tally, seed))),
@@ -66,6 +66,7 @@ fn run_groups() -> ExitCode {
         ("examples", Box::new(|tally| groups::examples::run(tally, home, seed))),
         ("readme", Box::new(|tally| groups::readme::run(tally, home, &library, &program, &inverse))),
         ("map", Box::new(|tally| groups::map::run(tally, home))),
+        ("gates", Box::new(|tally| groups::gates::run(tally, home))),
     ];
     run(&groups)
 }

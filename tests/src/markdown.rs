@@ -19,9 +19,16 @@ pub fn blocks(text: &str) -> Vec<Block<'_>> {
     blocks
 }
 
-/// The cells of each row of the table whose head begins so; no rows if there is no such table.
+/// The cells of each row of the tables whose heads begin so; no rows if there is no such table.
 pub fn rows<'a>(text: &'a str, head: &str) -> Vec<Vec<&'a str>> {
-    let table = text.lines().skip_while(|line| !line.starts_with(head)).take_while(|line| line.starts_with('|'));
-    let head_and_rule = 2;
-    table.skip(head_and_rule).map(|row| row.trim_matches('|').split('|').map(str::trim).collect()).collect()
+    let mut rows = Vec::new();
+    let mut lines = text.lines();
+    while let Some(line) = lines.next() {
+        if line.starts_with(head) {
+            let rule = 1;
+            let table = lines.by_ref().skip(rule).take_while(|line| line.starts_with('|'));
+            rows.extend(table.map(|row| row.trim_matches('|').split('|').map(str::trim).collect()));
+        }
+    }
+    rows
 }

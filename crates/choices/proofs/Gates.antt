@@ -43,15 +43,15 @@ gate-ruled : (code : ℕ) (rule : Rule) (g : Gate) → Ruled code rule → code 
 gate-ruled code rule g ruled e = ruled (gate-rule g) (ap decision e ∙ gate-decided g)
 
 module _ (side code : ℕ) (rule : Rule) (ruled : Ruled code rule) where
-  pub sided-left : side ≡ 0 → Sided side code rule
-  sided-left is-left false g s e = gate-ruled code rule g ruled e
-  sided-left is-left true g s e = absurd (omega arith)
-
-  pub sided-right : (side ≡ 0 → ⊥) → (undone : Rule) → Ruled (rule .inverse) undone → Sided side code undone
-  sided-right not-left undone inverse-ruled false g s e = absurd (not-left s)
-  sided-right not-left undone inverse-ruled true g s e =
+  pub sided-right : side ≡ 1 → (undone : Rule) → Ruled (rule .inverse) undone → Sided side code undone
+  sided-right is-right undone inverse-ruled true g s e =
       gate-ruled (rule .inverse) undone (inverse g) inverse-ruled
       (ap (λ (x : Rule). x .inverse) (gate-ruled code rule g ruled e) ∙ inverse-code g)
+  sided-right is-right undone inverse-ruled false g s e = absurd (omega arith)
+
+  pub sided-left : (side ≡ 1 → ⊥) → Sided side code rule
+  sided-left not-right true g s e = absurd (not-right s)
+  sided-left not-right false g s e = gate-ruled code rule g ruled e
 
 -- what a gate adds to the exponent: 1 if it mixes
 pub gate-halves : (g : Gate) → as-number (gate-rule g .mixes) ≡ halves g

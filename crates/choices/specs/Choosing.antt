@@ -23,10 +23,10 @@ use Rattle.choices.specs.declared.Next.{Next}
 abbrev pub Ruled : ℕ → Rule → Type 0
 Ruled code r = (rule : Rule) → decision code ≡ Known rule → r ≡ rule
 
--- a gate as it is put on the left, or its inverse, as it is put on the right
+-- a gate's inverse, as it is put on the right, or the gate, as it is put on the left
 abbrev pub sided : Bool → Gate → Gate
-sided false g = g
 sided true g = inverse g
+sided false g = g
 
 abbrev pub Sided : ℕ → ℕ → Rule → Type 0
 Sided side code r = (right : Bool) (g : Gate) → side ≡ as-number right → code ≡ gate-code g → r ≡ gate-rule (sided right g)

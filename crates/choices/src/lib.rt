@@ -1,10 +1,12 @@
-// The gate of a step: the next of the list that the schedule names, as it stands there, for the left, or inverted, for the right.
+// The gate of a step: the next of the list that the schedule names, inverted, for the right, or as it stands there, for the left.
 use circuits::GateRead;
 use gates::Decision;
 use gates::Operands;
 use gates::Phases;
 use gates::Rule;
 use plans::Action;
+use plans::LEFT;
+use plans::RIGHT;
 ghost use mathlib.Core.Path.{_≡_};
 ghost use Prim.Native.Nat.{min, max};
 ghost use Rattle.plans.specs.Prepare.{as-number};
@@ -51,15 +53,15 @@ fn rule_of(code: u32) -> Rule
     }
 }
 
-// The data of a gate put on the left, side 0, or of its inverse put on the right, side 1.
+// The data of a gate's inverse, put on the right, or of the gate, put on the left.
 fn rule_on(side: u32, code: u32) -> Rule
     ensures { λ r. ⌜ Sided side code r ⌝ }
 {
     let rule = rule_of(code);
-    if side == 0 {
-        return rule;
+    if side == RIGHT {
+        return rule_of(rule.inverse);
     }
-    rule_of(rule.inverse)
+    rule
 }
 
 // 2 to the power q, for a qubit; 0 past the qubits.
@@ -116,7 +118,7 @@ fn act(rule: Rule, side: u32, control: u32, target: u32, second: u32) -> Action
     }
 }
 
-// The gate that stands at an offset of a list on n qubits, for the left or, inverted, for the right.
+// The gate that stands at an offset of a list on n qubits, inverted, for the right, or as it is, for the left.
 fn take(bytes: &[u8], at: usize, n: u32, side: u32) -> Taken
     ensures { λ r. ⌜ Read (now (bytes .entry)) at n side r ⌝ }
 {
@@ -143,7 +145,7 @@ pub fn choose(u: &[u8], v: &[u8], step: u8, offsets: Offsets, n: u32) -> Next
     ensures { λ r. ⌜ Chosen (now (u .entry)) (now (v .entry)) step offsets n r ⌝ }
 {
     if step == 0 {
-        let taken = take(u, offsets.first, n, 0);
+        let taken = take(u, offsets.first, n, LEFT);
         let action = taken.action;
         return Next {
             action,
@@ -153,7 +155,7 @@ pub fn choose(u: &[u8], v: &[u8], step: u8, offsets: Offsets, n: u32) -> Next
             },
         };
     }
-    let taken = take(v, offsets.second, n, 1);
+    let taken = take(v, offsets.second, n, RIGHT);
     let action = taken.action;
     Next {
         action,

@@ -13,7 +13,7 @@ use Rattle.algebra.specs.Matrix.{Bits, total, product, same, identity}
 use Rattle.algebra.proofs.Rings.{mul-zero, one-mul}
 use Rattle.algebra.proofs.Entries.{entries, ⊕-zero, cond-one, cond-cond}
 use Rattle.algebra.proofs.Matrices.{Alike, scaled, product-alike, _≈⟨_⟩_, _■}
-use Rattle.gates.specs.Gate.{Kind, X, Y, Z, H, S, S†, T, T†, Pair, CNOT, CZ, Gate, on, pair, toffoli, fredkin}
+use Rattle.gates.specs.Gate.{Kind, Z, S, S†, T, T†, X, Y, H, Pair, CZ, CNOT, Gate, on, pair, toffoli, fredkin}
 use Rattle.gates.specs.Gate.{is, bit, agree, in-mask, all-set, matrix, Fits, inverse, inverse-kind, halves}
 use Rattle.gates.specs.Rule.{left-matrix, gate-rule, kind-rule, pair-rule, toffoli-rule}
 use Rattle.gates.proofs.Naming.{is-refl, is-apart, all-set-set, agree-same, agree-set}
@@ -34,21 +34,21 @@ Undone m m′ k active x y = small-product m m′ active x y ≡ cond (Bool·beq
 kind-undone : (k : Kind) (q : ℕ) (x y : Bool)
     → Undone (left-matrix (kind-rule k)) (left-matrix (kind-rule (inverse-kind k))) (halves (on k q) + halves (on k q)) true x y
 unfolding 𝟘 𝟙 neg _⊕_ _⊗_ turned times-w8 times-√2 √2^
-kind-undone X q = four _ refl refl refl refl
-kind-undone Y q = four _ refl refl refl refl
 kind-undone Z q = four _ refl refl refl refl
-kind-undone H q = four _ refl refl refl refl
 kind-undone S q = four _ refl refl refl refl
 kind-undone S† q = four _ refl refl refl refl
 kind-undone T q = four _ refl refl refl refl
 kind-undone T† q = four _ refl refl refl refl
+kind-undone X q = four _ refl refl refl refl
+kind-undone Y q = four _ refl refl refl refl
+kind-undone H q = four _ refl refl refl refl
 
 pair-undone : (k : Pair) (active x y : Bool) → Undone (left-matrix (pair-rule k)) (left-matrix (pair-rule k)) 0 active x y
 unfolding 𝟘 𝟙 neg _⊕_ _⊗_ turned times-w8 times-√2 √2^
-pair-undone CNOT true = four _ refl refl refl refl
-pair-undone CNOT false = four _ refl refl refl refl
 pair-undone CZ true = four _ refl refl refl refl
 pair-undone CZ false = four _ refl refl refl refl
+pair-undone CNOT true = four _ refl refl refl refl
+pair-undone CNOT false = four _ refl refl refl refl
 
 toffoli-undone : (active x y : Bool) → Undone (left-matrix toffoli-rule) (left-matrix toffoli-rule) 0 active x y
 unfolding 𝟘 𝟙 neg _⊕_ _⊗_ turned times-w8 times-√2 √2^
@@ -149,14 +149,14 @@ gate-inverse n g h =
 -- ---- the inverse's inverse is the gate
 
 kind-involutive : (k : Kind) (q : ℕ) → (inverse-kind (inverse-kind k) ≡ k) × (halves (on (inverse-kind k) q) ≡ halves (on k q))
-kind-involutive X q = (refl, refl)
-kind-involutive Y q = (refl, refl)
 kind-involutive Z q = (refl, refl)
-kind-involutive H q = (refl, refl)
 kind-involutive S q = (refl, refl)
 kind-involutive S† q = (refl, refl)
 kind-involutive T q = (refl, refl)
 kind-involutive T† q = (refl, refl)
+kind-involutive X q = (refl, refl)
+kind-involutive Y q = (refl, refl)
+kind-involutive H q = (refl, refl)
 
 pub inverse-inverse : (g : Gate) → inverse (inverse g) ≡ g
 inverse-inverse (on k q) = ap (λ j. on j q) (kind-involutive k q .0)

@@ -1,4 +1,4 @@
--- The product with a gate is its local rule, from the left and from the right: one argument over the gate's data.
+-- The product with a gate is its local rule, from the right and from the left: one argument over the gate's data.
 -- Assumes nothing.
 use mathlib.Core.Path.{_≡_, refl, sym, _∙_, ap, ap₂, _≡⟨_⟩_, _∎}
 use mathlib.Core.Bool.{Bool, true, false, not, cond, _&&_, _||_, Bool·beq, and-true}
@@ -16,13 +16,13 @@ use Rattle.algebra.proofs.Sums.{beq-sym, total-ext}
 use Rattle.algebra.proofs.Matrices.{product-transpose}
 use Rattle.gates.specs.declared.Phases.{Phases}
 use Rattle.gates.specs.declared.Rule.{Rule}
-use Rattle.gates.specs.Gate.{Kind, X, Y, Z, H, S, S†, T, T†, Pair, CNOT, CZ, Gate, on, pair, toffoli, fredkin, small, table}
+use Rattle.gates.specs.Gate.{Kind, Z, S, S†, T, T†, X, Y, H, Pair, CZ, CNOT, Gate, on, pair, toffoli, fredkin, small, table}
 use Rattle.gates.specs.Gate.{is, bit, agree, agree-in, in-mask, all-set, exchanged, names, matrix, Fits}
 use Rattle.gates.specs.Rule.{phase, acting, controlled, kind-rule, pair-rule, toffoli-rule, fredkin-rule, gate-rule, controls, target}
 use Rattle.gates.specs.Rule.{second, mixed, moved, acted}
 use Rattle.gates.proofs.Naming.{is-sound, without, without-first, without-controls, exchanged-ordered, all-set-agree}
 use Rattle.gates.proofs.Naming.{agree-and, agree-sym, agree-without, total-agree, spread-one}
-use Rattle.gates.proofs.Rules.{kind-left, kind-right, pair-left, pair-right, toffoli-data}
+use Rattle.gates.proofs.Rules.{kind-right, kind-left, pair-right, pair-left, toffoli-data}
 use Rattle.gates.proofs.Swaps.{swapped-sym, swap-agrees, swapped-line, swapped-sum}
 
 -- ---- a small matrix on a target, where every control is 1
@@ -182,7 +182,7 @@ matrix-left n (pair k p q) h r c e =
     ∙ one-control p q (acting (pair-rule k) (pair-rule k .left)) (h .2) r c (omega (arith, h .0))
 matrix-left n (toffoli mask q) h r c e =
     ap (λ x. cond (agree (names (toffoli mask q)) r c) x 𝟘)
-    (toffoli-entry (acting toffoli-rule (toffoli-rule .left)) (λ x y. toffoli-data x y .0) (agree-in (in-mask mask) r c) (all-set (in-mask mask) r)
+    (toffoli-entry (acting toffoli-rule (toffoli-rule .left)) (λ x y. toffoli-data x y .1) (agree-in (in-mask mask) r c) (all-set (in-mask mask) r)
     (bit r q) (bit c q))
     ∙ many-controls (in-mask mask) q (acting toffoli-rule (toffoli-rule .left)) (h .2) r c
 matrix-left n (fredkin mask p q) h r c e =
@@ -225,7 +225,7 @@ matrix-right n (pair k p q) h r c e f =
     ∙ one-control p q (acting (pair-rule k) (pair-rule k .right)) (h .2) c r (omega (arith, h .0))
 matrix-right n (toffoli mask q) h r c e f =
     matrix-left n (toffoli mask q) h r c e
-    ∙ on-target-sym (acting toffoli-rule (toffoli-rule .right)) (λ x y. toffoli-data x y .0 ∙ small-X-sym x y ∙ sym (toffoli-data y x .0)) (in-mask mask) q
+    ∙ on-target-sym (acting toffoli-rule (toffoli-rule .right)) (λ x y. toffoli-data x y .1 ∙ small-X-sym x y ∙ sym (toffoli-data y x .1)) (in-mask mask) q
     (h .2) r c
 matrix-right n (fredkin mask p q) h r c e f =
     matrix-left n (fredkin mask p q) h r c e
@@ -263,18 +263,18 @@ swapped-acts n P p q ph rule swaps moves F l e =
     cases false = refl
 
 pub kind-alone : (k : Kind) → kind-rule k .swaps ≡ false
-kind-alone X = refl
-kind-alone Y = refl
 kind-alone Z = refl
-kind-alone H = refl
 kind-alone S = refl
 kind-alone S† = refl
 kind-alone T = refl
 kind-alone T† = refl
+kind-alone X = refl
+kind-alone Y = refl
+kind-alone H = refl
 
 pub pair-alone : (k : Pair) → pair-rule k .swaps ≡ false
-pair-alone CNOT = refl
 pair-alone CZ = refl
+pair-alone CNOT = refl
 
 -- a sum over a line of the gate's matrix, a row or a column, is the local rule with that side's phases
 line-acts : (n : ℕ) (g : Gate) → Fits n g → (p : Phases) (line F : Bits → Entry) (l : Bits) → length l ≡ n
@@ -288,14 +288,14 @@ line-acts n g h p line F l e is-line = total-ext n _ _ (λ x k. ap (λ y. y ⊗ 
     acts (toffoli mask q) h = on-target-acts n toffoli-rule p (in-mask mask) q q refl (h .1) F l e
     acts (fredkin mask p′ q) h = swapped-acts n (in-mask mask) p′ q p fredkin-rule refl refl F l e
 
-pub product-left : (n : ℕ) (g : Gate) → Fits n g → (M : Matrix) (r c : Bits) → length r ≡ n
-    → product n (matrix g) M r c ≡ acted (gate-rule g) (gate-rule g .left) (controls g) (target g) (second g) (λ x. M x c) r
-unfolding product
-product-left n g h M r c e = line-acts n g h (gate-rule g .left) (matrix g r) (λ x. M x c) r e (λ x k. matrix-left n g h r x e)
-
 pub product-right : (n : ℕ) (g : Gate) → Fits n g → (M : Matrix) (r c : Bits) → length c ≡ n
     → product n M (matrix g) r c ≡ acted (gate-rule g) (gate-rule g .right) (controls g) (target g) (second g) (M r) c
 unfolding product
 product-right n g h M r c e =
     ap (λ A. A r c) (product-transpose n M (matrix g))
     ∙ line-acts n g h (gate-rule g .right) (λ x. matrix g x c) (M r) c e (λ x k. matrix-right n g h x c k e)
+
+pub product-left : (n : ℕ) (g : Gate) → Fits n g → (M : Matrix) (r c : Bits) → length r ≡ n
+    → product n (matrix g) M r c ≡ acted (gate-rule g) (gate-rule g .left) (controls g) (target g) (second g) (λ x. M x c) r
+unfolding product
+product-left n g h M r c e = line-acts n g h (gate-rule g .left) (matrix g r) (λ x. M x c) r e (λ x k. matrix-left n g h r x e)

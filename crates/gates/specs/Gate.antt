@@ -1,4 +1,5 @@
--- The gates and their matrices. Definitions only; their laws are in proofs/.
+-- The gates and their matrices, by kind: diagonal, then with one entry a row elsewhere, then H, each dagger after its gate. The codes stand
+-- by number. Definitions only; their laws are in proofs/.
 use mathlib.Core.Bool.{Bool, true, false, not, cond, _&&_, _||_, Bool·beq}
 use mathlib.Core.List.{List, [], _∷_}
 use Prim.Native.Nat.{ℕ, zero, suc, _/_, _%_, _^_, _<_, _≤_}
@@ -14,10 +15,10 @@ use Rattle.algebra.specs.Matrix.{Bits, Matrix}
 
 -- the gates of one qubit, and those of a control and a target
 pub data Kind : Type 0 where
-  X Y Z H S S† T T† : Kind
+  Z S S† T T† X Y H : Kind
 
 pub data Pair : Type 0 where
-  CNOT CZ : Pair
+  CZ CNOT : Pair
 
 -- "Code 10 is a control mask and a target to flip; code 11 is a control mask and two targets to swap where all controls are 1."
 pub data Gate : Type 0 where
@@ -49,23 +50,23 @@ table p q r s false true = q
 table p q r s true false = r
 table p q r s true true = s
 
--- "X = [0 1; 1 0]. Y = [0 −i; i 0] with i = w8². Z, S, T are diagonal: 1 and −1, w8², w8. H has numerators [1 1; 1 −1]";
--- S† and T† are the diagonals with the inverses of w8² and w8, w8⁶ and w8⁷
+-- "Z, S, T are diagonal: 1 and −1, w8², w8.", and S† and T† with the inverses of w8² and w8, w8⁶ and w8⁷;
+-- "X = [0 1; 1 0]. Y = [0 −i; i 0] with i = w8²."; "H has numerators [1 1; 1 −1]"
 abbrev pub small : Kind → Bool → Bool → Entry
-small X = table 𝟘 𝟙 𝟙 𝟘
-small Y = table 𝟘 (neg (w8^ 2)) (w8^ 2) 𝟘
 small Z = table 𝟙 𝟘 𝟘 (neg 𝟙)
-small H = table 𝟙 𝟙 𝟙 (neg 𝟙)
 small S = table 𝟙 𝟘 𝟘 (w8^ 2)
 small S† = table 𝟙 𝟘 𝟘 (w8^ 6)
 small T = table 𝟙 𝟘 𝟘 (w8^ 1)
 small T† = table 𝟙 𝟘 𝟘 (w8^ 7)
+small X = table 𝟘 𝟙 𝟙 𝟘
+small Y = table 𝟘 (neg (w8^ 2)) (w8^ 2) 𝟘
+small H = table 𝟙 𝟙 𝟙 (neg 𝟙)
 
 -- by the row's control and target bit, then the column's:
--- "CNOT flips the target where the control is 1; CZ negates where both are 1."
+-- "CZ negates where both are 1."; "CNOT flips the target where the control is 1"
 abbrev pub small-pair : Pair → Bool → Bool → Bool → Bool → Entry
-small-pair CNOT c t c′ t′ = cond (Bool·beq c c′ && Bool·beq (cond c (not t) t) t′) 𝟙 𝟘
 small-pair CZ c t c′ t′ = cond (Bool·beq c c′ && Bool·beq t t′) (cond (c && t) (neg 𝟙) 𝟙) 𝟘
+small-pair CNOT c t c′ t′ = cond (Bool·beq c c′ && Bool·beq (cond c (not t) t) t′) 𝟙 𝟘
 
 -- ---- a gate's matrix on n qubits
 
@@ -146,14 +147,14 @@ All-fit n (g ∷ gs) = Fits n g × All-fit n gs
 
 -- "X, Y, Z, H, CNOT and CZ are their own inverses; 4 and 5, and 6 and 7, undo each other."; 10 and 11 "are their own inverses"
 abbrev pub inverse-kind : Kind → Kind
-inverse-kind X = X
-inverse-kind Y = Y
 inverse-kind Z = Z
-inverse-kind H = H
 inverse-kind S = S†
 inverse-kind S† = S
 inverse-kind T = T†
 inverse-kind T† = T
+inverse-kind X = X
+inverse-kind Y = Y
+inverse-kind H = H
 
 abbrev pub inverse : Gate → Gate
 inverse (on k q) = on (inverse-kind k) q
@@ -163,14 +164,14 @@ inverse (fredkin mask p q) = fredkin mask p q
 
 -- "H .. adds 1 to k": what a gate adds to the exponent
 abbrev pub halves : Gate → ℕ
-halves (on X q) = 0
-halves (on Y q) = 0
 halves (on Z q) = 0
-halves (on H q) = 1
 halves (on S q) = 0
 halves (on S† q) = 0
 halves (on T q) = 0
 halves (on T† q) = 0
+halves (on X q) = 0
+halves (on Y q) = 0
 halves (pair k p q) = 0
 halves (toffoli mask q) = 0
 halves (fredkin mask p q) = 0
+halves (on H q) = 1

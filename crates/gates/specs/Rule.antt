@@ -1,5 +1,6 @@
--- A gate's data: how it acts on its target where its controls are 1, and what that does to a matrix's entries.
--- Definitions only; that the data are the published matrices' is in proofs/Rules.antt.
+-- A gate's data: how it acts on its target where its controls are 1, and what that does to a matrix's entries. The gates by kind as in
+-- Gate.antt, multiplication from the right before that from the left. Definitions only; that the data are the published matrices' is in
+-- proofs/Rules.antt.
 use mathlib.Core.Path.{_≡_}
 use mathlib.Core.Bool.{Bool, true, false, not, cond, Bool·beq}
 use mathlib.Core.List.{[]}
@@ -8,7 +9,7 @@ use lib.ListN.{set}
 use Rattle.algebra.specs.declared.Entry.{Entry}
 use Rattle.algebra.specs.Entry.{𝟘, 𝟙, neg, _⊕_, _⊖_, turned, w8^}
 use Rattle.algebra.specs.Matrix.{Bits}
-use Rattle.gates.specs.Gate.{Kind, X, Y, Z, H, S, S†, T, T†, Pair, CNOT, CZ, Gate, on, pair, toffoli, fredkin}
+use Rattle.gates.specs.Gate.{Kind, Z, S, S†, T, T†, X, Y, H, Pair, CZ, CNOT, Gate, on, pair, toffoli, fredkin}
 use Rattle.gates.specs.Gate.{Meant, one, two, mask-one, mask-two, unknown, meant}
 use Rattle.gates.specs.Gate.{is, bit, table, small, small-pair, in-mask, all-set, exchanged, inverse-kind}
 use Rattle.gates.specs.declared.Phases.{Phases}
@@ -37,18 +38,18 @@ unturned operands mixes swaps undo =
     record { operands = operands; mixes = mixes; flips = false; swaps = swaps; right = phases 0 0; left = phases 0 0; inverse = undo }
 
 abbrev pub kind-rule : Kind → Rule
-kind-rule X = flipping Qubit (phases 0 0) (phases 0 0) 0
-kind-rule Y = flipping Qubit (phases 2 6) (phases 6 2) 1
 kind-rule Z = diagonal Qubit 4 2
-kind-rule H = unturned Qubit true false 3
 kind-rule S = diagonal Qubit 2 5
 kind-rule S† = diagonal Qubit 6 4
 kind-rule T = diagonal Qubit 1 7
 kind-rule T† = diagonal Qubit 7 6
+kind-rule X = flipping Qubit (phases 0 0) (phases 0 0) 0
+kind-rule Y = flipping Qubit (phases 2 6) (phases 6 2) 1
+kind-rule H = unturned Qubit true false 3
 
 abbrev pub pair-rule : Pair → Rule
-pair-rule CNOT = flipping Controlled (phases 0 0) (phases 0 0) 8
 pair-rule CZ = diagonal Controlled 4 9
+pair-rule CNOT = flipping Controlled (phases 0 0) (phases 0 0) 8
 
 -- "Code 10 needs at least two controls and code 11 at least one"
 abbrev pub toffoli-rule : Rule
@@ -81,32 +82,32 @@ flipped rule x = cond (rule .flips) (not x) x
 abbrev pub acting : Rule → Phases → Bool → Bool → Entry
 acting rule p x y = cond (rule .mixes) (table 𝟙 𝟙 𝟙 (neg 𝟙) x y) (cond (Bool·beq (flipped rule x) y) (w8^ (phase p x)) 𝟘)
 
--- from the left a row is made from rows, from the right a column from columns
-abbrev pub left-matrix : Rule → Bool → Bool → Entry
-left-matrix rule x y = acting rule (rule .left) x y
-
+-- from the right a column is made from columns, from the left a row from rows
 abbrev pub right-matrix : Rule → Bool → Bool → Entry
 right-matrix rule x y = acting rule (rule .right) y x
+
+abbrev pub left-matrix : Rule → Bool → Bool → Entry
+left-matrix rule x y = acting rule (rule .left) x y
 
 -- with a control: the identity where the control is 0
 abbrev pub controlled : (Bool → Bool → Entry) → Bool → Bool → Bool → Bool → Entry
 controlled m c t c′ t′ = cond (Bool·beq c c′) (cond c (m t t′) (cond (Bool·beq t t′) 𝟙 𝟘)) 𝟘
 
--- what a decision says of the code: the published matrix, made row by row and column by column, and the inverse's code
+-- what a decision says of the code: the published matrix, made column by column and row by row, and the inverse's code
 abbrev pub Published : Meant → Decision → Type 0
 Published (one k) (Known rule) =
-    ((x y : Bool) → left-matrix rule x y ≡ small k x y) × ((x y : Bool) → right-matrix rule x y ≡ small k x y)
+    ((x y : Bool) → right-matrix rule x y ≡ small k x y) × ((x y : Bool) → left-matrix rule x y ≡ small k x y)
     × (meant (rule .inverse) ≡ one (inverse-kind k))
 Published (one k) Unknown = ⊥
 Published (two k) (Known rule) =
-    ((c t c′ t′ : Bool) → controlled (left-matrix rule) c t c′ t′ ≡ small-pair k c t c′ t′)
-    × ((c t c′ t′ : Bool) → controlled (right-matrix rule) c t c′ t′ ≡ small-pair k c t c′ t′)
+    ((c t c′ t′ : Bool) → controlled (right-matrix rule) c t c′ t′ ≡ small-pair k c t c′ t′)
+    × ((c t c′ t′ : Bool) → controlled (left-matrix rule) c t c′ t′ ≡ small-pair k c t c′ t′)
     × (meant (rule .inverse) ≡ two k)
 Published (two k) Unknown = ⊥
 Published mask-one (Known rule) =
-    ((x y : Bool) → left-matrix rule x y ≡ small X x y) × ((x y : Bool) → right-matrix rule x y ≡ small X x y) × (meant (rule .inverse) ≡ mask-one)
+    ((x y : Bool) → right-matrix rule x y ≡ small X x y) × ((x y : Bool) → left-matrix rule x y ≡ small X x y) × (meant (rule .inverse) ≡ mask-one)
 Published mask-one Unknown = ⊥
-Published mask-two (Known rule) = (rule .swaps ≡ true) × (rule .mixes ≡ false) × (rule .left ≡ phases 0 0) × (rule .right ≡ phases 0 0)
+Published mask-two (Known rule) = (rule .swaps ≡ true) × (rule .mixes ≡ false) × (rule .right ≡ phases 0 0) × (rule .left ≡ phases 0 0)
     × (meant (rule .inverse) ≡ mask-two)
 Published mask-two Unknown = ⊥
 Published unknown (Known rule) = ⊥

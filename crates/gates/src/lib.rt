@@ -1,7 +1,34 @@
-// The one decision over gate codes: what a gate does to a matrix, from the left and from the right, and its inverse.
+// The one decision over gate codes: what a gate does to a matrix, from the right and from the left, and its inverse.
 ghost use mathlib.Core.Path.{_≡_};
 ghost use mathlib.Core.Bool.{true, false};
 ghost use Rattle.gates.specs.Rule.{diagonal, flipping, unturned, Decided};
+
+// The codes, by number; those from CODES on are unknown.
+const X: u32 = 0;
+
+const Y: u32 = 1;
+
+const Z: u32 = 2;
+
+const H: u32 = 3;
+
+const S: u32 = 4;
+
+const S_DAGGER: u32 = 5;
+
+const T: u32 = 6;
+
+const T_DAGGER: u32 = 7;
+
+const CNOT: u32 = 8;
+
+const CZ: u32 = 9;
+
+const TOFFOLI: u32 = 10;
+
+const FREDKIN: u32 = 11;
+
+const CODES: u32 = 12;
 
 // The powers of w8 by which an entry is multiplied, by the target's bit.
 pub struct Phases {
@@ -85,46 +112,36 @@ fn unturned(operands: Operands, mixes: bool, swaps: bool, inverse: u32) -> Rule
     }
 }
 
+// The cases stand by kind, each dagger after its gate: diagonal; one entry a row, by a flip or a swap; H. docs/GATES.md goes through them.
 pub fn decide(code: u32) -> Decision
     ensures { λ r. ⌜ Decided code r ⌝ }
 {
     let plain = Phases { zero: 0, one: 0 };
+    let right_of_y = Phases { zero: 2, one: 6 };
+    let left_of_y = Phases { zero: 6, one: 2 };
     let one = Operands::Qubit;
     let two = Operands::Controlled;
+    let flipped = Operands::Masked {
+        least: 2,
+        targets: 1,
+    };
+    let swapped = Operands::Masked {
+        least: 1,
+        targets: 2,
+    };
     match code {
-        0 => Decision::Known(flipping(one, plain, plain, 0)),
-        1 => Decision::Known(flipping(
-            one,
-            Phases { zero: 2, one: 6 },
-            Phases { zero: 6, one: 2 },
-            1,
-        )),
-        2 => Decision::Known(diagonal(one, 4, 2)),
-        3 => Decision::Known(unturned(one, true, false, 3)),
-        4 => Decision::Known(diagonal(one, 2, 5)),
-        5 => Decision::Known(diagonal(one, 6, 4)),
-        6 => Decision::Known(diagonal(one, 1, 7)),
-        7 => Decision::Known(diagonal(one, 7, 6)),
-        8 => Decision::Known(flipping(two, plain, plain, 8)),
-        9 => Decision::Known(diagonal(two, 4, 9)),
-        10 => Decision::Known(flipping(
-            Operands::Masked {
-                least: 2,
-                targets: 1,
-            },
-            plain,
-            plain,
-            10,
-        )),
-        11 => Decision::Known(unturned(
-            Operands::Masked {
-                least: 1,
-                targets: 2,
-            },
-            false,
-            true,
-            11,
-        )),
-        12..=4294967295 => Decision::Unknown,
+        Z => Decision::Known(diagonal(one, 4, Z)),
+        S => Decision::Known(diagonal(one, 2, S_DAGGER)),
+        S_DAGGER => Decision::Known(diagonal(one, 6, S)),
+        T => Decision::Known(diagonal(one, 1, T_DAGGER)),
+        T_DAGGER => Decision::Known(diagonal(one, 7, T)),
+        CZ => Decision::Known(diagonal(two, 4, CZ)),
+        X => Decision::Known(flipping(one, plain, plain, X)),
+        Y => Decision::Known(flipping(one, right_of_y, left_of_y, Y)),
+        CNOT => Decision::Known(flipping(two, plain, plain, CNOT)),
+        TOFFOLI => Decision::Known(flipping(flipped, plain, plain, TOFFOLI)),
+        FREDKIN => Decision::Known(unturned(swapped, false, true, FREDKIN)),
+        H => Decision::Known(unturned(one, true, false, H)),
+        CODES..=u32::MAX => Decision::Unknown,
     }
 }

@@ -33,14 +33,14 @@ pub record Over : Type 0 where
 unfoldable pub start : Over
 start = record { entries = identity; power = 0 }
 
--- a gate put on the left or on the right
+-- a gate put on the right or on the left
 pub data Step : Type 0 where
-  left right : Gate → Step
+  right left : Gate → Step
 
 -- "In this base k is the number of H gates applied and is never lowered."
 unfoldable pub stepped : ℕ → Step → Over → Over
-stepped n (left g) M = record { entries = product n (matrix g) (M .entries); power = M .power + halves g }
 stepped n (right g) M = record { entries = product n (M .entries) (matrix g); power = M .power + halves g }
+stepped n (left g) M = record { entries = product n (matrix g) (M .entries); power = M .power + halves g }
 
 -- what the steps come to
 abbrev pub run : ℕ → List Step → Over → Over

@@ -1,4 +1,4 @@
--- The plan of a gate on the left or on the right, written into the plan's slots: one way for every gate, by the mask of the qubits that it
+-- The plan of a gate on the right or on the left, written into the plan's slots: one way for every gate, by the mask of the qubits that it
 -- names. Definitions only.
 use mathlib.Core.Path.{_≡_}
 use mathlib.Core.Bool.{Bool, true, false, cond}
@@ -21,8 +21,8 @@ use Rattle.transitions.specs.Plan.{Plan}
 abbrev pub as-number : Bool → ℕ
 as-number b = cond b 1 0
 
--- "Level 2q asks for the row bit of qubit q, level 2q + 1 for its column bit": on the left, side 0, a gate works on rows, on the
--- right, side 1, on columns
+-- "Level 2q asks for the row bit of qubit q, level 2q + 1 for its column bit": on the right, side 1, a gate works on columns, on the
+-- left, side 0, on rows
 abbrev pub side-level : ℕ → ℕ → ℕ
 side-level side q = 2 * q + side
 
@@ -63,10 +63,10 @@ prepared rule side named low high l = with-stages side named low high (with-acti
 
 -- ---- what the plan is for
 
--- the product with a gate on the left, side 0, or on the right, side 1
+-- the product with a gate on the right or on the left
 abbrev pub product-on : Bool → ℕ → Gate → Matrix → Matrix
-product-on false n g M = product n (matrix g) M
 product-on true n g M = product n M (matrix g)
+product-on false n g M = product n (matrix g) M
 
 -- the stages are the levels of a set of qubits on a side, in ascending order
 pub record Staged-as (side : ℕ) (named : ℕ → Bool) (plan : Plan) : Type 0 where

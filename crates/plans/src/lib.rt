@@ -38,8 +38,13 @@ const LEAST_VALUE_HEADS: u32 = 16;
 
 const LEAST_SLOTS: u32 = 64;
 
-// A gate put on the left (side 0) or on the right (side 1), by its data, the mask of the qubits that it names, and its targets, the lower
-// one first; a gate with one target has it twice.
+// The side of a matrix that a gate is put on.
+pub const RIGHT: u32 = 1;
+
+pub const LEFT: u32 = 0;
+
+// A gate put on a side, by its data, the mask of the qubits that it names, and its targets, the lower one first; a gate with one target has
+// it twice.
 pub struct Action {
     pub rule: Rule,
     pub side: u32,
@@ -76,7 +81,7 @@ fn phases_of(rule: Rule, side: u32) -> Phases
     if rule.mixes {
         return Phases { zero: 0, one: 4 };
     }
-    if side == 1 {
+    if side == RIGHT {
         return rule.right;
     }
     rule.left
@@ -141,7 +146,7 @@ fn write_stages(named: u32, side: u32, low: u32, high: u32, plan: &mut [u32; 32]
     plan[SECOND] = named_below(named, high);
 }
 
-// The plan of a gate on the left (side 0) or on the right (side 1); the other slots stay.
+// The plan of a gate on a side; the other slots stay.
 fn prepare(rule: Rule, side: u32, named: u32, low: u32, high: u32, plan: &mut [u32; 32])
     requires { ⌜ (named < 65536) × (side < 2) × (low < 16) × (high < 16) ⌝ }
     ensures { λ _. ⌜ now (plan .exit) ≡ prepared rule side named low high (now (plan .entry)) ⌝ }

@@ -6,6 +6,7 @@ pub mod damage;
 pub mod dense_itself;
 pub mod documentation;
 pub mod examples;
+pub mod gates;
 pub mod header;
 pub mod inverses;
 pub mod invert;
