@@ -3,14 +3,13 @@
 use std::fs;
 use std::path::Path;
 
-use gannetrope::inverse;
+use gannetrope::{Refusal, inverse};
 
 use crate::call;
-use crate::circuits::list;
+use crate::circuits::write_number;
 use crate::dense::entry::{Entry, ONE, ZERO};
-use crate::dense::matrix::{CODES, Gate, Matrix};
+use crate::dense::matrix::{CODES, Matrix};
 use crate::dense::miter::Miter;
-use crate::dense::reader::Circuit;
 use crate::dense::{self, Call, lengths};
 use crate::hex;
 use crate::markdown::rows;
@@ -39,12 +38,18 @@ struct Row {
     name: String,
     code: u32,
     inverse: String,
-    controls: u32,
-    targets: u32,
+    operands: Operands,
     matrix: Vec<Vec<Entry>>,
     exponent: u32,
     /// A line's number and how it begins, for each of the files.
     lines: Vec<(usize, String)>,
+}
+
+/// What follows a gate's code: how many controls it has at least, each by its number or all in a mask, and how many targets.
+struct Operands {
+    controls: u32,
+    masked: bool,
+    targets: u32,
 }
 
 pub fn run(tally: &mut Tally, home: &Path) {
@@ -54,6 +59,9 @@ pub fn run(tally: &mut Tally, home: &Path) {
 
     tally.case("GATES, codes", || check_codes(&gates));
     tally.case("GATES, order", || check_order(&gates, &sources[3]));
+    for gate in gates.iter().filter(|gate| gate.operands.masked) {
+        tally.case(&format!("GATES, {}, too few controls", gate.name), || check_too_few(gate));
+    }
     for gate in &gates {
         let name = &gate.name;
         tally.case(&format!("GATES, {name}, inverse"), || check_inverse(gate));
@@ -74,29 +82,27 @@ fn read(home: &Path, name: &str) -> String {
 
 fn row(cells: &[&str]) -> Row {
     let &[name, code, inverse, after, matrix, ref lines @ ..] = cells else { panic!("too few cells: {cells:?}") };
-    let (controls, targets) = operands(after);
     let (matrix, over) = matrix.trim_start_matches("`[").split_once("]`").expect("a matrix");
     Row {
         name: name.to_string(),
         code: code.parse().expect("a code"),
         inverse: inverse.to_string(),
-        controls,
-        targets,
+        operands: operands(after),
         matrix: matrix.split("; ").map(|row| row.split(' ').map(entry).collect()).collect(),
         exponent: u32::from(over == " over √2"),
         lines: lines.iter().map(|cell| line(cell)).collect(),
     }
 }
 
-/// How many controls a gate has at least, and how many targets, by what follows its code.
-fn operands(after: &str) -> (u32, u32) {
-    match after {
-        "a qubit" => (0, 1),
-        "a control, a target" => (1, 1),
-        "a mask of 2 or more, a target" => (2, 1),
-        "a mask of 1 or more, two targets" => (1, 2),
+fn operands(after: &str) -> Operands {
+    let (controls, masked, targets) = match after {
+        "a qubit" => (0, false, 1),
+        "a control, a target" => (1, false, 1),
+        "a mask of 2 or more, a target" => (2, true, 1),
+        "a mask of 1 or more, two targets" => (1, true, 2),
         _ => panic!("'{after}' follows no code"),
-    }
+    };
+    Operands { controls, masked, targets }
 }
 
 /// 0, 1 or a power of w, with a sign or not.
@@ -128,55 +134,73 @@ fn check_codes(gates: &[Row]) -> Checked {
     let mut codes: Vec<u32> = gates.iter().map(|gate| gate.code).collect();
     codes.sort();
     alike("codes", format!("{codes:?}"), format!("{:?}", (0..CODES).collect::<Vec<_>>()))?;
-    let unknown = Circuit { qubits: 1, gates: vec![Gate::new(CODES, &[0])] };
-    alike("code 12", inverse(&list(&unknown)).unwrap_err().to_string(), "refused 7 list 1 offset 2".to_string())
+    check_refused(&list(&[1, 1, CODES, 0]), 7, 2)
+}
+
+fn check_too_few(gate: &Row) -> Checked {
+    let fewer = Operands { controls: gate.operands.controls - 1, ..gate.operands };
+    check_refused(&one_gate(&fewer, gate.code), 17, 3)
+}
+
+fn check_refused(list: &[u8], number: u32, offset: u32) -> Checked {
+    let refused: Result<Vec<u8>, _> = Err(Refusal::Byte { number, list: 1, offset });
+    alike("returned", format!("{:?}", inverse(list)), format!("{refused:?}"))
 }
 
 fn check_inverse(gate: &Row) -> Checked {
     let code = gate.inverse.split(' ').next().and_then(|code| code.parse().ok()).ok_or("no code of an inverse")?;
-    let found = inverse(&list(&circuit(gate, gate.code))).map_err(|refusal| refusal.to_string())?;
-    alike("inverse", hex::encode(&found), hex::encode(&list(&circuit(gate, code))))
+    let found = inverse(&one_gate(&gate.operands, gate.code)).map_err(|refusal| refusal.to_string())?;
+    alike("inverse", hex::encode(&found), hex::encode(&one_gate(&gate.operands, code)))
 }
 
 /// A gate of list 2 comes to the right by its inverse: the miter is the matrix of the gate that the page names as such.
 fn check_right(gate: &Row, gates: &[Row]) -> Checked {
     let named = |other: &&Row| format!("{} {}", other.code, other.name) == gate.inverse;
     let undone = gates.iter().find(named).ok_or_else(|| format!("no gate is '{}'", gate.inverse))?;
-    check_miter(&empty(gate), &circuit(gate, gate.code), undone)
+    check_miter(no_gate(&gate.operands), one_gate(&gate.operands, gate.code), 1, undone)
 }
 
 /// A gate of list 1 comes to the left as it is.
 fn check_left(gate: &Row) -> Checked {
-    check_miter(&circuit(gate, gate.code), &empty(gate), gate)
+    check_miter(one_gate(&gate.operands, gate.code), no_gate(&gate.operands), 0, gate)
 }
 
 /// One step from the identity makes a gate's matrix: the report and every slot of the stores.
-fn check_miter(u: &Circuit, v: &Circuit, made: &Row) -> Checked {
+fn check_miter(list1: Vec<u8>, list2: Vec<u8>, step: u8, made: &Row) -> Checked {
     let store = lengths(NODES, VALUES);
-    let schedule = vec![u8::from(u.gates.is_empty())];
-    let call = Call { list1: list(u), list2: list(v), schedule, w: 32, first: store, second: store };
+    let call = Call { list1, list2, schedule: vec![step], w: 32, first: store, second: store };
     let miter = Miter { matrix: matrix(made), exponent: made.exponent };
     call::check(&call, DIRT, &dense::finished(&miter, 1))
 }
 
-fn qubits(gate: &Row) -> u32 {
-    gate.controls + gate.targets
+fn qubits(operands: &Operands) -> u32 {
+    operands.controls + operands.targets
 }
 
-fn empty(gate: &Row) -> Circuit {
-    Circuit { qubits: qubits(gate), gates: Vec::new() }
+fn no_gate(operands: &Operands) -> Vec<u8> {
+    list(&[qubits(operands), 0])
 }
 
-/// The gate's operands after a code, the controls before the targets.
-fn circuit(gate: &Row, code: u32) -> Circuit {
-    let all: Vec<u32> = (0..qubits(gate)).collect();
-    let (controls, targets) = all.split_at(gate.controls as usize);
-    Circuit { qubits: qubits(gate), gates: vec![Gate::controlled(code, controls, targets)] }
+/// The list of one gate, on as many qubits as it names, its controls before its targets.
+fn one_gate(operands: &Operands, code: u32) -> Vec<u8> {
+    let mut numbers = vec![qubits(operands), 1, code];
+    match operands.masked {
+        true => numbers.push((1 << operands.controls) - 1),
+        false => numbers.extend(0..operands.controls),
+    }
+    numbers.extend(operands.controls..qubits(operands));
+    list(&numbers)
+}
+
+fn list(numbers: &[u32]) -> Vec<u8> {
+    let mut bytes = Vec::new();
+    numbers.iter().for_each(|&number| write_number(&mut bytes, number));
+    bytes
 }
 
 /// The gate's matrix with its controls: the identity but for the last rows and columns, where all of them are 1.
 fn matrix(gate: &Row) -> Matrix {
-    let size = 1 << qubits(gate);
+    let size = 1 << qubits(&gate.operands);
     let before = size - gate.matrix.len();
     Matrix::from_fn(size, |row, column| match (row.checked_sub(before), column.checked_sub(before)) {
         (Some(row), Some(column)) => gate.matrix[row][column],
