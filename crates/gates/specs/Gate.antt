@@ -1,5 +1,5 @@
--- The gates and their matrices, by kind: diagonal, then with one entry a row elsewhere, then H, each dagger after its gate. The codes stand
--- by number. Definitions only; their laws are in proofs/.
+-- The gates and their matrices, by kind: diagonal, then flips and swaps, then H, each dagger after its gate; the codes by number.
+-- Definitions only; their laws are in proofs/.
 use mathlib.Core.Bool.{Bool, true, false, not, cond, _&&_, _||_, Bool·beq}
 use mathlib.Core.List.{List, [], _∷_}
 use Prim.Native.Nat.{ℕ, zero, suc, _/_, _%_, _^_, _<_, _≤_}

@@ -112,7 +112,7 @@ fn unturned(operands: Operands, mixes: bool, swaps: bool, inverse: u32) -> Rule
     }
 }
 
-// The cases stand by kind, each dagger after its gate: diagonal; one entry a row, by a flip or a swap; H. docs/GATES.md goes through them.
+// By kind, each dagger after its gate: diagonal, then flips and swaps, then H, then the codes of no gate. docs/GATES.md goes through them.
 pub fn decide(code: u32) -> Decision
     ensures { λ r. ⌜ Decided code r ⌝ }
 {
