@@ -27,6 +27,12 @@ const FILES: [&str; 4] = [GATES, GATES, RULES, DECISION];
 /// What stands between a case's name and its data in the decision.
 const KNOWN: &str = " => Decision::Known(";
 
+/// Refusals, and the offsets of what they name in the list of one gate.
+const UNKNOWN_CODE: u32 = 7;
+const TOO_FEW_CONTROLS: u32 = 17;
+const CODE_AT: u32 = 2;
+const MASK_AT: u32 = 3;
+
 /// Room for the matrix of any gate of the page.
 const NODES: usize = 32;
 const VALUES: usize = 4;
@@ -55,10 +61,11 @@ struct Operands {
 pub fn run(tally: &mut Tally, home: &Path) {
     let page = read(home, "docs/GATES.md");
     let sources = FILES.map(|file| read(home, file));
+    let decision = read(home, DECISION);
     let gates: Vec<Row> = rows(&page, HEAD).iter().map(|cells| row(cells)).collect();
 
     tally.case("GATES, codes", || check_codes(&gates));
-    tally.case("GATES, order", || check_order(&gates, &sources[3]));
+    tally.case("GATES, order", || check_order(&gates, &decision));
     for gate in gates.iter().filter(|gate| gate.operands.masked) {
         tally.case(&format!("GATES, {}, too few controls", gate.name), || check_too_few(gate));
     }
@@ -67,7 +74,8 @@ pub fn run(tally: &mut Tally, home: &Path) {
         tally.case(&format!("GATES, {name}, inverse"), || check_inverse(gate));
         tally.case(&format!("GATES, {name} on the right"), || check_right(gate, &gates));
         tally.case(&format!("GATES, {name} on the left"), || check_left(gate));
-        tally.case(&format!("GATES, {name}, constant"), || check_constant(gate, &sources[3]));
+        tally.case(&format!("GATES, {name}, constant"), || check_constant(gate, &decision));
+        tally.case(&format!("GATES, {name}, names"), || check_names(gate));
         for ((file, source), line) in FILES.iter().zip(&sources).zip(&gate.lines) {
             tally.case(&format!("GATES, {name}, {file}"), || check_line(source, line));
         }
@@ -89,8 +97,17 @@ fn row(cells: &[&str]) -> Row {
         inverse: inverse.to_string(),
         operands: operands(after),
         matrix: matrix.split("; ").map(|row| row.split(' ').map(entry).collect()).collect(),
-        exponent: u32::from(over == " over √2"),
+        exponent: exponent(over),
         lines: lines.iter().map(|cell| line(cell)).collect(),
+    }
+}
+
+/// What stands after a matrix.
+fn exponent(over: &str) -> u32 {
+    match over {
+        "" => 0,
+        " over √2" => 1,
+        _ => panic!("'{over}' follows a matrix"),
     }
 }
 
@@ -134,12 +151,12 @@ fn check_codes(gates: &[Row]) -> Checked {
     let mut codes: Vec<u32> = gates.iter().map(|gate| gate.code).collect();
     codes.sort();
     alike("codes", format!("{codes:?}"), format!("{:?}", (0..CODES).collect::<Vec<_>>()))?;
-    check_refused(&list(&[1, 1, CODES, 0]), 7, 2)
+    check_refused(&list(&[1, 1, CODES, 0]), UNKNOWN_CODE, CODE_AT)
 }
 
 fn check_too_few(gate: &Row) -> Checked {
     let fewer = Operands { controls: gate.operands.controls - 1, ..gate.operands };
-    check_refused(&one_gate(&fewer, gate.code), 17, 3)
+    check_refused(&one_gate(&fewer, gate.code), TOO_FEW_CONTROLS, MASK_AT)
 }
 
 fn check_refused(list: &[u8], number: u32, offset: u32) -> Checked {
@@ -228,6 +245,22 @@ fn case(gate: &Row) -> &str {
 fn check_constant(gate: &Row, decision: &str) -> Checked {
     let constant = format!("const {}: u32 = {};", case(gate), gate.code);
     if decision.lines().any(|line| line == constant) { Ok(()) } else { Err(format!("no line '{constant}'")) }
+}
+
+/// The lines of definitions are those of this gate.
+fn check_names(gate: &Row) -> Checked {
+    let (name, lower) = (&gate.name, gate.name.to_lowercase());
+    let definitions = match (gate.operands.controls, gate.operands.masked) {
+        (0, _) => [format!("small {name}"), format!("inverse-kind {name}"), format!("kind-rule {name}")],
+        (_, false) => [format!("small-pair {name}"), "inverse (pair k p q)".to_string(), format!("pair-rule {name}")],
+        (_, true) => [format!("named-entry ({lower}"), format!("inverse ({lower}"), format!("{lower}-rule")],
+    };
+    let starts: Vec<&str> = gate.lines.iter().map(|(_, start)| start.as_str()).collect();
+    alike("lines", starts.len(), FILES.len())?;
+    // the arguments of a gate with a mask may follow
+    let begins = |(start, definition): (&&str, &String)| start.split(" mask").next() == Some(definition.as_str());
+    let all = starts.iter().zip(&definitions).all(begins);
+    if all { Ok(()) } else { Err(format!("found {starts:?}, expected {definitions:?}")) }
 }
 
 /// The line begins so, with a whole word.
