@@ -8,7 +8,7 @@ use native.Mathlib.Omega.{arith}
 use lib.IntN.{ℤ, pos, negsuc, neg_ℤ-neg_ℤ}
 use Rattle.algebra.specs.declared.Entry.{Entry}
 use Rattle.algebra.specs.Entry.{entry, 𝟘, 𝟙, ◌⊕◌, neg, ◌⊖◌, ◌⊗◌, times_w8, times_w8⁻¹, times_√2, turned, w8^, √2^}
-use Rattle.algebra.proofs.Rings.{CommutativeRing, add_lcomm, zero-add, one_mul, mul_zero, zero_mul}
+use Rattle.algebra.proofs.Rings.{CommutativeRing, add_lcomm, zero_add, one_mul, mul_zero, zero_mul}
 use Rattle.algebra.proofs.Rings.{neg_mul, mul_neg, neg_neg, neg_sum, neg_zero, equal_of_difference}
 use Rattle.algebra.proofs.Extensions.{Extension, extended, extended_mul}
 use Rattle.algebra.proofs.Integers.{integers, double_zero}
@@ -43,9 +43,9 @@ module _ {R : Type 0} (𝓡 : CommutativeRing R) where
       × ((d · d' + − 𝟏 · (b · b')) + (𝟎 · (c · c' + − 𝟏 · (a · a')) + − 𝟏 · (𝟏 · (c · a' + a · c'))) ≡ d · d' + − (a · c' + b · b' + c · a'))
   product_parts a b c d a' b' c' d' = (
     simp (add_assoc, add_comm, add_lcomm 𝓡),
-    simp (neg_mul 𝓡, one_mul 𝓡, zero_mul 𝓡, zero-add 𝓡, add_assoc, add_comm, add_lcomm 𝓡),
+    simp (neg_mul 𝓡, one_mul 𝓡, zero_mul 𝓡, zero_add 𝓡, add_assoc, add_comm, add_lcomm 𝓡),
     simp (neg_mul 𝓡, one_mul 𝓡, neg_sum 𝓡, add_assoc, add_comm, add_lcomm 𝓡),
-    simp (neg_mul 𝓡, one_mul 𝓡, zero_mul 𝓡, zero-add 𝓡, neg_sum 𝓡, add_assoc, add_comm, add_lcomm 𝓡),
+    simp (neg_mul 𝓡, one_mul 𝓡, zero_mul 𝓡, zero_add 𝓡, neg_sum 𝓡, add_assoc, add_comm, add_lcomm 𝓡),
   )
 
   w8_parts : (a b c d : R)
@@ -54,10 +54,10 @@ module _ {R : Type 0} (𝓡 : CommutativeRing R) where
       × (𝟏 · d + 𝟎 · c + − (𝟎 · b + 𝟎 · a) ≡ d)
       × (𝟎 · d + − (𝟎 · c + 𝟎 · b + 𝟏 · a) ≡ − a)
   w8_parts a b c d = (
-    simp (zero_mul 𝓡, one_mul 𝓡, zero-add 𝓡, add_zero),
-    simp (zero_mul 𝓡, one_mul 𝓡, zero-add 𝓡, add_zero, neg_zero 𝓡),
+    simp (zero_mul 𝓡, one_mul 𝓡, zero_add 𝓡, add_zero),
+    simp (zero_mul 𝓡, one_mul 𝓡, zero_add 𝓡, add_zero, neg_zero 𝓡),
     simp (zero_mul 𝓡, one_mul 𝓡, add_zero, neg_zero 𝓡),
-    simp (zero_mul 𝓡, one_mul 𝓡, zero-add 𝓡),
+    simp (zero_mul 𝓡, one_mul 𝓡, zero_add 𝓡),
   )
 
   √2_parts : (a b c d : R)
@@ -67,9 +67,9 @@ module _ {R : Type 0} (𝓡 : CommutativeRing R) where
       × (𝟎 · d + − (− 𝟏 · c + 𝟎 · b + 𝟏 · a) ≡ c + − a)
   √2_parts a b c d = (
     simp (zero_mul 𝓡, one_mul 𝓡, neg_mul 𝓡, add_zero, add_comm),
-    simp (zero_mul 𝓡, one_mul 𝓡, neg_mul 𝓡, neg_neg 𝓡, zero-add 𝓡, add_zero, add_comm),
+    simp (zero_mul 𝓡, one_mul 𝓡, neg_mul 𝓡, neg_neg 𝓡, zero_add 𝓡, add_zero, add_comm),
     simp (zero_mul 𝓡, one_mul 𝓡, neg_mul 𝓡, neg_neg 𝓡, add_zero, add_comm),
-    simp (zero_mul 𝓡, one_mul 𝓡, neg_mul 𝓡, neg_neg 𝓡, neg_sum 𝓡, zero-add 𝓡, add_zero),
+    simp (zero_mul 𝓡, one_mul 𝓡, neg_mul 𝓡, neg_neg 𝓡, neg_sum 𝓡, zero_add 𝓡, add_zero),
   )
 
 -- ---- the entries are a commutative ring

@@ -55,7 +55,7 @@ even_is {z} f = ap (λ (x : ℤ). eqb (of_z w64 (rem_z x (pos 2))) 0) (to_z-of_z
 
 -- a result as a local holds it
 pub result : {r e : ℤ} → mag r < 2 ^ 31 → r ≡ e → to_z w32 (of_z w32 r) ≡ e
-result h is = to_z-of_z (record { sfits = h }) ∙ is
+result h is = to_z-of_z {w = w32} (record { sfits = h }) ∙ is
 
 -- half of an operation on two operands as the caller's locals hold them
 module _ (op : ℤ → ℤ → ℤ) (x y : ℤ) {r : ℤ} (fx : mag x < 2 ^ 31) (fy : mag y < 2 ^ 31) (fr : mag r < 2 ^ 63)

@@ -92,11 +92,11 @@ module _ (op : ℤ → ℤ → ℤ) (widening : Widening op) {x y : ℤ} (fx : S
   op_is = to_z-of_z op_fits ∙ ap₂ op (as64_is fx) (as64_is fy)
 
 pub local_is : {z : ℤ} → mag z < 2 ^ 63 → to_z w64 (of_z w64 z) ≡ z
-local_is h = to_z-of_z (record { sfits = h })
+local_is h = to_z-of_z {w = w64} (record { sfits = h })
 
 -- an operation on operands as the caller's locals hold them
 pub operands_are : (op : ℤ → ℤ → ℤ) (x y : ℤ) → mag x < 2 ^ 31 → mag y < 2 ^ 31 → op (to_z w32 (of_z w32 x)) (to_z w32 (of_z w32 y)) ≡ op x y
-operands_are op x y fx fy = ap₂ op (to_z-of_z (record { sfits = fx })) (to_z-of_z (record { sfits = fy }))
+operands_are op x y fx fy = ap₂ op (to_z-of_z {w = w32} (record { sfits = fx })) (to_z-of_z {w = w32} (record { sfits = fy }))
 
 -- a callee's result, from such operands
 pub result_is : (op : ℤ → ℤ → ℤ) (x y : ℤ) {r : ℤ} → mag x < 2 ^ 31 → mag y < 2 ^ 31 → mag r < 2 ^ 63 →

@@ -1,4 +1,6 @@
 // Entries of four whole numbers over the eighth root of unity, and their arithmetic within a width.
+#![tactic(auto)]
+
 ghost use Rattle.std.specs.Prelude.{◌≡◌, false, ◌&&◌, ◌%◌, ◌^◌, ◌-◌, ◌≤◌, ◌<◌, pos, ◌+ℤ◌, ◌-ℤ◌};
 ghost use Rattle.std.specs.Int.Signed.{mag};
 ghost use Rattle.algebra.specs.Entry.{entry, ◌⊕◌, ◌⊖◌, turned};
@@ -7,7 +9,7 @@ ghost use Rattle.algebra.specs.Wide.{Small, part};
 ghost use Rattle.algebra.specs.Division.{even, half, divisible, over_√2};
 
 // (a, b, c, d) means a·w8³ + b·w8² + c·w8 + d.
-#[derive(Drop)]
+#[derive(Clone, Copy)]
 pub struct Entry {
     pub a: i32,
     pub b: i32,
@@ -16,14 +18,14 @@ pub struct Entry {
 }
 
 // A result, if all its numbers lie within the width.
-#[derive(Drop)]
+#[derive(Clone, Copy)]
 pub enum Bounded {
     Within(Entry),
     Outside,
 }
 
 // An entry before its numbers are tested.
-#[derive(Drop)]
+#[derive(Clone, Copy)]
 struct Wide {
     a: i64,
     b: i64,

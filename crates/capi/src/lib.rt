@@ -1,4 +1,6 @@
 // The C interface: the judging call, the schedule maker and the writer of a list's inverse, on numbers and slices.
+#![tactic(auto)]
+
 ghost use Rattle.std.specs.Prelude.{◌≡◌};
 ghost use Rattle.schedules.specs.Schedule.{made, filled};
 ghost use Rattle.stores.specs.Columns.{columns};

@@ -1,4 +1,6 @@
 // The checks before a run: the width, the columns' lengths, the two lists, their qubit counts, the schedule.
+#![tactic(auto)]
+
 ghost use Rattle.std.specs.Prelude.{◌≡◌};
 ghost use Rattle.miters.specs.declared.Refusal.TheVariants.{Call};
 ghost use Rattle.checks.specs.declared.Checked.TheVariants.{Refused};
@@ -10,7 +12,7 @@ use lists::ListRead;
 use miters::Refusal;
 
 // The lengths of a store's columns.
-#[derive(Drop)]
+#[derive(Clone, Copy)]
 pub struct Lengths {
     pub level: usize,
     pub low: usize,
@@ -22,7 +24,7 @@ pub struct Lengths {
 }
 
 // What the checks before the run find: a refusal, or the qubit count and where the gates of the two lists begin.
-#[derive(Drop)]
+#[derive(Clone, Copy)]
 pub enum Checked {
     Refused(Refusal),
     Pair { n: u32, offsets: Offsets },

@@ -1,4 +1,6 @@
 // The gate of a step: the next of the list that the schedule names, inverted, for the right, or as it stands there, for the left.
+#![tactic(auto)]
+
 ghost use Rattle.std.specs.Prelude.{◌≡◌, min, max};
 ghost use Rattle.plans.specs.Prepare.{as_number};
 ghost use Rattle.choices.specs.Choosing.{Ruled, Sided, Power, Named, Acting, Read, Chosen};
@@ -13,21 +15,21 @@ const QUBITS: u32 = 16;
 const MASKS: u32 = 65536;
 
 // Where the gates of the two lists are read next.
-#[derive(Drop)]
+#[derive(Clone, Copy)]
 pub struct Offsets {
     pub first: usize,
     pub second: usize,
 }
 
 // A gate for a side, and the offset after it.
-#[derive(Drop)]
+#[derive(Clone, Copy)]
 struct Taken {
     action: Action,
     next: usize,
 }
 
 // The gate of a step, and where the gates of the two lists are read after it.
-#[derive(Drop)]
+#[derive(Clone, Copy)]
 pub struct Next {
     pub action: Action,
     pub offsets: Offsets,

@@ -1,4 +1,6 @@
 // Gate lists as bytes: numbers and gates, read by slice and offset. Any bytes and any offset are safe input.
+#![tactic(auto)]
+
 ghost use Rattle.std.specs.Prelude.{◌≡◌, ◌^◌, ltb};
 ghost use Rattle.gates.specs.Gate.{in_mask};
 ghost use Rattle.circuits.specs.Refusals.{base_limits};
@@ -11,7 +13,7 @@ use gates::{Decision, Operands};
 // ---- answers
 
 // A refusal by its number in the paper's table, and the offset that it returns.
-#[derive(Drop)]
+#[derive(Clone, Copy)]
 pub struct Refusal {
     pub number: u32,
     pub offset: usize,
@@ -30,7 +32,7 @@ const CONTROL_IS_TARGET: u32 = 9;
 const TOO_FEW_CONTROLS: u32 = 17;
 
 // A number and the offset after it, or why there is none.
-#[derive(Drop)]
+#[derive(Clone, Copy)]
 pub enum NumberRead {
     Number { value: u32, next: usize },
     Refused(Refusal),
@@ -38,7 +40,7 @@ pub enum NumberRead {
 
 // A gate and the offset after it, or why there is none. The control is a mask for codes 10 and 11, and 0 where the gate names one qubit; the
 // second target is the target again where there is one only.
-#[derive(Drop)]
+#[derive(Clone, Copy)]
 pub enum GateRead {
     Gate {
         code: u32,
@@ -53,7 +55,7 @@ pub enum GateRead {
 // ---- limits
 
 // The most qubits and gates that a list may have.
-#[derive(Drop)]
+#[derive(Clone, Copy)]
 pub struct Limits {
     pub qubits: u32,
     pub gates: u32,

@@ -2,11 +2,13 @@
 //
 // Node i stands in slot i of the columns level, low and high, value j in slot j of the columns a, b, c and d. The reference to
 // value j is 2·j, that to node i is 2·i + 1.
+#![tactic(auto)]
+
 ghost use Rattle.std.specs.Prelude.{◌≡◌, true, false};
 ghost use Rattle.cofactors.specs.Slots.{InNodes, cofactor};
 
 // A reference's children by the bit of a level.
-#[derive(Drop)]
+#[derive(Clone, Copy)]
 pub struct Sides {
     pub low: u32,
     pub high: u32,

@@ -16,7 +16,7 @@ use Rattle.diagrams.proofs.Tests.{false_apart, number_decides}
 -- the machine compares bits
 module _ (x y : ℤ) (fx : mag x < 2 ^ 31) (fy : mag y < 2 ^ 31) where
   bits_injective : of_z w32 x ≡ of_z w32 y → x ≡ y
-  bits_injective e = sym (to_z-of_z (record { sfits = fx })) ∙ ap (to_z w32) e ∙ to_z-of_z (record { sfits = fy })
+  bits_injective e = sym (to_z-of_z {w = w32} (record { sfits = fx })) ∙ ap (to_z w32) e ∙ to_z-of_z {w = w32} (record { sfits = fy })
 
   pub bits_same : eqb (of_z w32 x) (of_z w32 y) ≡ same_number x y
   bits_same = by_test (same_number x y) refl

@@ -1,4 +1,6 @@
 // Reduced diagrams: what they give, that one exists for every table of values, and that it is the only one. Laws, and the test of entries.
+#![tactic(auto)]
+
 ghost use Rattle.std.specs.Prelude.{◌≡◌};
 ghost use Rattle.diagrams.specs.Diagram.{same_entry};
 

@@ -3,7 +3,7 @@
 use mathlib.Core.Bool.{false}
 use mathlib.Core.Path.{◌≡◌, sym, ◌∙◌, ap}
 use mathlib.Core.List.{List, [], ◌∷◌, ◌++◌}
-use Prim.Native.Nat.{ℕ, ◌^◌, ◌<◌, ◌≤◌}
+use Prim.Native.Nat.{ℕ, ◌+◌, ◌^◌, ◌<◌, ◌≤◌}
 use lib.Count.{ones}
 use native.Mathlib.Nat.{add-zero}
 use native.Mathlib.Omega.{arith}
@@ -84,4 +84,4 @@ module _ (n : ℕ) (few : n < 2097152) (narrow : 2 ^ n ≤ 2097152) (s : List �
   gates_read at [] fit e = ap (read []) (sym (e.after ∙ add-zero at))
   gates_read at (g ∷ gs) fit e =
       let c = split (gate_bytes g) (gates_bytes gs) e in
-      rw (gate_reads at g fit.0 c.0, gates_read _ gs fit.1 c.1)
+      rw (gate_reads at g fit.0 c.0, gates_read (at + length (gate_bytes g)) gs fit.1 c.1)

@@ -1,4 +1,6 @@
 // The bytes of a list: a list is accepted exactly if it is the encoding of some gates within the limits (laws), and the writer of a number.
+#![tactic(auto)]
+
 ghost use Rattle.std.specs.Prelude.{◌≡◌, ◌+◌, ◌<◌, ◌≤◌, length};
 ghost use Rattle.encodings.specs.Encoding.{groups, number_bytes};
 ghost use Rattle.encodings.specs.Writing.{Put};

@@ -1,4 +1,6 @@
 // The end of a run: how much of the first store is kept, and the report, with the verdict read off that store.
+#![tactic(auto)]
+
 ghost use Rattle.std.specs.Prelude.{◌≡◌};
 ghost use Rattle.stores.specs.Columns.{columns};
 ghost use Rattle.endings.specs.Ending.{kept, Readable, report_of};

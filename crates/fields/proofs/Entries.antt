@@ -15,7 +15,7 @@ abbrev pub stored : ℤ → ℤ
 stored z = to_z w32 (of_z w32 z)
 
 pub stored_is : {z : ℤ} → mag z < 2 ^ 31 → stored z ≡ z
-stored_is h = to_z-of_z (record { sfits = h })
+stored_is h = to_z-of_z {w = w32} (record { sfits = h })
 
 pub stored_parts : (x : Entry) → mag x.a < 2 ^ 31 → mag x.b < 2 ^ 31 → mag x.c < 2 ^ 31 → mag x.d < 2 ^ 31
     → ◌≡◌ {A = List ℤ} (stored x.a ∷ stored x.b ∷ stored x.c ∷ stored x.d ∷ []) (parts x)

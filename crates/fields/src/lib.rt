@@ -1,4 +1,6 @@
 // A report, and what a writer answers, as numbers in lent slices: what the C interface hands out.
+#![tactic(auto)]
+
 ghost use Rattle.std.specs.Prelude.{◌≡◌, ◌≤◌, length};
 ghost use Rattle.stores.specs.Columns.{over};
 ghost use Rattle.fields.specs.Numbers.{reason_of, numbers_of, entries_of, Shown, written_numbers};
@@ -23,7 +25,7 @@ const KIND_REFUSED: u64 = 2;
 const KIND_WRITTEN: u64 = 0;
 
 // What a refusal returns, with 0 where it has no such number.
-#[derive(Drop)]
+#[derive(Clone, Copy)]
 struct Reason {
     number: u64,
     list: u64,

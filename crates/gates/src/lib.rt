@@ -1,4 +1,6 @@
 // The one decision over gate codes: what a gate does to a matrix, from the right and from the left, and its inverse.
+#![tactic(auto)]
+
 ghost use Rattle.std.specs.Prelude.{◌≡◌, true, false};
 ghost use Rattle.gates.specs.Rule.{diagonal, flipping, unturned, Decided};
 
@@ -30,14 +32,14 @@ const FREDKIN: u32 = 11;
 const CODES: u32 = 12;
 
 // The powers of w8 by which an entry is multiplied, by the target's bit.
-#[derive(Drop)]
+#[derive(Clone, Copy)]
 pub struct Phases {
     pub zero: u32,
     pub one: u32,
 }
 
 // What follows a gate's code: a qubit; a control and a target; a mask of at least so many controls and so many targets.
-#[derive(Drop)]
+#[derive(Clone, Copy)]
 pub enum Operands {
     Qubit,
     Controlled,
@@ -46,7 +48,7 @@ pub enum Operands {
 
 // A gate's data. Where every control is 1 it acts: it mixes its target's two entries, or takes the entry with its two targets' bits
 // swapped, or the one at the target's bit, flipped or not, times a power of w8. The powers differ by side for Y.
-#[derive(Drop)]
+#[derive(Clone, Copy)]
 pub struct Rule {
     pub operands: Operands,
     pub mixes: bool,
@@ -57,7 +59,7 @@ pub struct Rule {
     pub inverse: u32,
 }
 
-#[derive(Drop)]
+#[derive(Clone, Copy)]
 pub enum Decision {
     Known(Rule),
     Unknown,

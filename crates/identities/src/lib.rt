@@ -1,4 +1,6 @@
 // The identity's reduced diagram, written into lent columns.
+#![tactic(auto)]
+
 ghost use Rattle.std.specs.Prelude.{◌≡◌, [], ◌∷◌, ◌+◌, ◌*◌, ◌<◌, ◌≤◌, length};
 ghost use Rattle.stores.specs.Columns.{columns, over, written, NodeColumns, NodesWritten, ValueColumns};
 ghost use Rattle.identities.specs.Identity.{QubitSet, identity_nodes, identity_store};

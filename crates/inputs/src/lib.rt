@@ -1,4 +1,6 @@
 // The verdict program's answer on the bytes that it has read: the split into two lists, and the line of their report.
+#![tactic(auto)]
+
 ghost use Rattle.std.specs.Prelude.{◌≡◌, ◌≤◌, length};
 ghost use Rattle.reports.specs.Line.{line, over_front};
 ghost use Rattle.inputs.specs.Input.{bad_length, input_report};

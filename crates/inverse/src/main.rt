@@ -1,4 +1,6 @@
 // The inverse program: reads a list from standard input and writes its inverse to standard output, or its refusal's line to standard error.
+#![tactic(auto)]
+
 use inverses::Written;
 use libc::{STDERR_FILENO, STDIN_FILENO, STDOUT_FILENO};
 

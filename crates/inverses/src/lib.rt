@@ -1,4 +1,6 @@
 // The inverse of a gate list, written into a lent buffer: the gates in opposite order, each by its inverse code. Any bytes are safe input.
+#![tactic(auto)]
+
 ghost use Rattle.std.specs.Prelude.{◌≡◌, ◌++◌, ◌+◌, ◌<◌, ◌≤◌, length};
 ghost use Rattle.std.proofs.lemmas.List.Edits.{sets};
 ghost use Rattle.gates.specs.Rule.{decision};
@@ -18,7 +20,7 @@ use miters::Refusal;
 const SHORT_BUFFER: u32 = 16;
 
 // The number of bytes written, or why there are none.
-#[derive(Drop)]
+#[derive(Clone, Copy)]
 pub enum Written {
     Bytes(usize),
     Refused(Refusal),

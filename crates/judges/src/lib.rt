@@ -1,4 +1,6 @@
 // The call that judges two gate lists: the checks, the run, the report, and what the stores hold then.
+#![tactic(auto)]
+
 ghost use Rattle.std.specs.Prelude.{◌≡◌, length};
 ghost use Rattle.stores.specs.Columns.{columns};
 ghost use Rattle.steps.specs.Stepping.{Scratch};

@@ -1,4 +1,6 @@
 // States of a step's walk with no question left: which they are, and their entries.
+#![tactic(auto)]
+
 ghost use Rattle.std.specs.Prelude.{◌≡◌, [], map, ◌/◌, ◌<◌, pos, get_or};
 ghost use Rattle.algebra.specs.Width.{bounded};
 ghost use Rattle.transitions.specs.Source.{source_entry, HoldsSlot, ReadingLeaf};

@@ -1,4 +1,6 @@
 // Whole gate lists: their counts, their gates and their end, read through the reader. Any bytes are safe input.
+#![tactic(auto)]
+
 ghost use Rattle.std.specs.Prelude.{◌≡◌};
 ghost use Rattle.circuits.specs.Reading.{count, body, decoded};
 ghost use Rattle.circuits.specs.Answers.{number_answer};
@@ -13,7 +15,7 @@ const BAD_GATE_COUNT: u32 = 6;
 const BYTES_REMAIN: u32 = 10;
 
 // A list's counts and the offset of its first gate, or the first failure met.
-#[derive(Drop)]
+#[derive(Clone, Copy)]
 pub enum ListRead {
     List {
         qubits: u32,

@@ -1,4 +1,6 @@
 // A product's terminals over its exponent, divided by √2 while it goes.
+#![tactic(auto)]
+
 ghost use Rattle.std.specs.Prelude.{◌≡◌, ◌*◌, ◌≤◌, length};
 ghost use Rattle.algebra.specs.Division.{divisible};
 ghost use Rattle.algebra.specs.Lowering.{every};

@@ -1,4 +1,6 @@
 // Two lists judged at the programs' settings: width 32, stores of 4,096 nodes and 1,024 values, the proportional schedule.
+#![tactic(auto)]
+
 ghost use Rattle.std.specs.Prelude.{◌≡◌};
 ghost use Rattle.pairs.specs.Pair.{gate_count, along_report, lists_report};
 

@@ -1,4 +1,6 @@
 // The lowest place of a diagram that forbids equality: a row walker and a column walker that call each other, the levels left falling.
+#![tactic(auto)]
+
 ghost use Rattle.std.specs.Prelude.{◌≡◌};
 ghost use Rattle.places.specs.Search.{is_settled, row_sought, column_sought};
 ghost use Rattle.places.specs.Ready.{RowReady, ColumnReady};
@@ -6,7 +8,7 @@ ghost use Rattle.places.specs.Ready.{RowReady, ColumnReady};
 use uniques::FULL;
 
 // What is searched: the used nodes, the levels, and the references to the corner's value and to zero.
-#[derive(Drop)]
+#[derive(Clone, Copy)]
 pub struct Task {
     pub nodes: u32,
     pub levels: u32,
@@ -15,7 +17,7 @@ pub struct Task {
 }
 
 // The lowest place found that forbids equality, with the reference to its value.
-#[derive(Drop)]
+#[derive(Clone, Copy)]
 pub enum Found {
     Nowhere,
     At { row: u32, column: u32, value: u32 },

@@ -1,4 +1,6 @@
 // The plan of a step and its tables, before its walk: what the gate does and at which levels, the sizes of the tables, the tables cleared.
+#![tactic(auto)]
+
 ghost use Rattle.std.specs.Prelude.{◌≡◌, ◌<◌, ◌≤◌, ◌%◌, ◌^◌, max};
 ghost use Rattle.std.specs.Int.Count.{ones};
 ghost use Rattle.std.proofs.lemmas.List.Edits.{sets};
@@ -31,7 +33,7 @@ pub const LEFT: u32 = 0;
 
 // A gate put on a side, by its data, the mask of the qubits that it names, and its targets, the lower one first; a gate with one target has
 // it twice.
-#[derive(Drop)]
+#[derive(Clone, Copy)]
 pub struct Action {
     pub rule: Rule,
     pub side: u32,
@@ -41,7 +43,7 @@ pub struct Action {
 }
 
 // The width, and the most heads of a unique table and slots of the computed table that the scratch has room for.
-#[derive(Drop)]
+#[derive(Clone, Copy)]
 pub struct Sizes {
     pub width: u32,
     pub heads: u32,
@@ -49,7 +51,7 @@ pub struct Sizes {
 }
 
 // The nodes and values that a store holds.
-#[derive(Drop)]
+#[derive(Clone, Copy)]
 pub struct Used {
     pub nodes: u32,
     pub values: u32,

@@ -1,4 +1,6 @@
 // A step: the reduced diagram of a matrix times a gate, from one store into another.
+#![tactic(auto)]
+
 ghost use Rattle.std.specs.Prelude.{map};
 ghost use Rattle.turns.specs.Work.{work};
 ghost use Rattle.products.specs.Step.{Task, Fresh, Multiplied};

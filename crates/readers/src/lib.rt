@@ -1,5 +1,7 @@
 // The reader of a list. Each function over it takes it apart and leaves the work to the decoder of `circuits`, on the slice and the
 // offset. Such a function is proved by hand, so whoever reads a list calls `number_at` and `gate_at`, whose parameters are plain.
+#![tactic(auto)]
+
 ghost use Rattle.std.specs.Prelude.{◌≡◌};
 ghost use Rattle.circuits.specs.Reading.{number, gate};
 ghost use Rattle.circuits.specs.Answers.{number_answer, gate_answer};
@@ -8,7 +10,7 @@ ghost use Rattle.readers.specs.Reader.{reader_at};
 use circuits::{GateRead, NumberRead};
 
 // A list's bytes, borrowed, and the offset that is read next.
-#[derive(Drop)]
+#[derive(Clone, Copy)]
 pub struct Reader<'a> {
     pub bytes: &'a [u8],
     pub at: usize,

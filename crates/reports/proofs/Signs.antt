@@ -101,7 +101,7 @@ abbrev held_entry : Entry → Entry
 held_entry x = record { a = held x.a; b = held x.b; c = held x.c; d = held x.d }
 
 held_is : (z : ℤ) → mag z < 2 ^ 31 → z ≡ held z
-held_is z h = sym (to_z-of_z (record { sfits = h }))
+held_is z h = sym (to_z-of_z {w = w32} (record { sfits = h }))
 
 pub numbers_held : (x : Entry) → mag x.a < 2 ^ 31 → mag x.b < 2 ^ 31 → mag x.c < 2 ^ 31 → mag x.d < 2 ^ 31 →
     numbers x ≡ numbers (held_entry x)

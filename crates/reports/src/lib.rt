@@ -1,5 +1,7 @@
 // The report as its line of text. Each function writes a part of the line at a place of the buffer, of which it keeps the rest,
 // and returns the place after it.
+#![tactic(auto)]
+
 ghost use Rattle.std.specs.Prelude.{◌≡◌, [], ◌∷◌, ◌++◌, ◌+◌, ◌≤◌, ◌<◌, nat_abs, length};
 ghost use Rattle.reports.specs.Line.{digits, after_space, numbers, place, refusal, counts, difference, answer, line, over_front};
 ghost use Rattle.reports.specs.Writing.{room, Put};

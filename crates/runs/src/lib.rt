@@ -1,4 +1,6 @@
 // A run along a schedule: from the identity, step by step, the two stores taking turns.
+#![tactic(auto)]
+
 ghost use Rattle.stores.specs.Columns.{columns};
 ghost use Rattle.steps.specs.Stepping as stepping;
 ghost use Rattle.runs.specs.Running.{Task, Left};
@@ -9,7 +11,7 @@ use miters::Refusal;
 use plans::{Action, Sizes, Used};
 
 // How a run ends: the steps, the exponent, and how much of the first store holds the miter; or the refusal of a step.
-#[derive(Drop)]
+#[derive(Clone, Copy)]
 pub enum End {
     Done {
         steps: u32,

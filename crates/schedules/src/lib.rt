@@ -1,10 +1,12 @@
 // Schedules: does one fit two lists, and the maker of the proportional one.
+#![tactic(auto)]
+
 ghost use Rattle.std.specs.Prelude.{◌≡◌, ◌++◌, ◌+◌, ◌*◌, ◌<◌, ◌≤◌, length, drop};
 ghost use Rattle.schedules.specs.Limited.{Limited};
 ghost use Rattle.schedules.specs.Schedule.{gate_limit, fits, next_step, proportional, made, filled};
 
 // The number of steps of the schedule made, or the number of the refusal.
-#[derive(Drop)]
+#[derive(Clone, Copy)]
 pub enum Made {
     Steps(u32),
     Refused(u32),

@@ -1,4 +1,6 @@
 // The verdict on a miter, and any of its entries, read off the store that holds its reduced diagram.
+#![tactic(auto)]
+
 ghost use Rattle.std.specs.Prelude.{◌≡◌, false, ◌-◌, replicate};
 ghost use Rattle.diagrams.specs.Diagram.{node};
 ghost use Rattle.stores.specs.Columns.{columns};

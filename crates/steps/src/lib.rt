@@ -1,4 +1,6 @@
 // A step along a schedule: the reduced diagram in one store times a gate, into the other store, with tables that follow its size.
+#![tactic(auto)]
+
 ghost use Rattle.std.specs.Prelude.{[], ◌∷◌};
 ghost use Rattle.stores.specs.Columns.{columns};
 ghost use Rattle.products.specs.Step.{Fresh};

@@ -1,4 +1,6 @@
 // Stores in lent columns: what publishes terminals, reads a value, and clears.
+#![tactic(auto)]
+
 ghost use Rattle.std.specs.Prelude.{◌≡◌, ◌+◌, ◌*◌, ◌<◌, ◌≤◌, pos, length, get_or};
 ghost use Rattle.uniques.specs.UniqueTable.{listed, values_in};
 ghost use Rattle.stores.specs.Columns.{columns, over, zeroed, wiped, NodeColumns};

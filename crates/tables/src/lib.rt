@@ -1,4 +1,6 @@
 // The computed table of a step's walk: what was found for a state, kept for the next time that the walk comes to it.
+#![tactic(auto)]
+
 ghost use Rattle.std.specs.Prelude.{◌≡◌, ◌≤◌, length};
 ghost use Rattle.transitions.specs.Plan.{plan_of};
 ghost use Rattle.transitions.specs.Next.{numbered};

@@ -73,4 +73,4 @@ cofactor_value s x level b even = rw (ref_of_even x even)
 
 -- a signed number in a local is read back from its bits
 pub number_held : {z : ℤ} → mag z < 2 ^ 31 → to_z w32 (of_z w32 z) ≡ z
-number_held h = to_z-of_z (record { sfits = h })
+number_held h = to_z-of_z {w = w32} (record { sfits = h })

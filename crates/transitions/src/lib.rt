@@ -1,4 +1,6 @@
 // A step by one gate, level by level: the states of the walk, and what each bit turns them into.
+#![tactic(auto)]
+
 ghost use Rattle.std.specs.Prelude.{◌≡◌, map, ◌+◌, ◌<◌, min, eqb};
 ghost use Rattle.gates.specs.Rule.{phase, flipped};
 ghost use Rattle.diagrams.specs.Diagram.{ref_of};
@@ -57,7 +59,7 @@ const SWAPPING: u32 = 32;
 const CHOOSING: u32 = 64;
 
 // Where the walk stands in the source: one reference or two, and what is made of them.
-#[derive(Drop)]
+#[derive(Clone, Copy)]
 pub struct State {
     pub x: u32,
     pub y: u32,

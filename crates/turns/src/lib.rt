@@ -1,4 +1,6 @@
 // A turn of a step's walk, before and after its calls: the value of a state with no question left, and the node over two answers.
+#![tactic(auto)]
+
 ghost use Rattle.std.specs.Prelude.{map, ◌/◌};
 ghost use Rattle.transitions.specs.Plan.{plan_of};
 ghost use Rattle.transitions.specs.Source.{HoldsSlot};

@@ -61,4 +61,4 @@ module _ {z : ℤ} (f : SFits w32 z) where
 
 -- a local's number, lifted
 pub lifted_local : (z : ℤ) {r : ℕ} → mag z < 2 ^ 31 → r ≡ lifted (to_z w32 (of_z w32 z)) → r ≡ lifted z
-lifted_local z h e = e ∙ ap lifted (to_z-of_z (record { sfits = h }))
+lifted_local z h e = e ∙ ap lifted (to_z-of_z {w = w32} (record { sfits = h }))

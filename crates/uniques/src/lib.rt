@@ -2,6 +2,8 @@
 //
 // Node i stands in slot i of three columns, terminal j in slots 4j to 4j + 3 of one. An index beside them has hash chains:
 // for a table of N slots, slot i has the next of element i, slot N + h the head of the chain of hash h.
+#![tactic(auto)]
+
 ghost use Rattle.std.specs.Prelude.{◌≡◌, ◌+◌, ◌*◌, ◌/◌, ◌^◌, ◌<◌, length, get_or};
 ghost use Rattle.diagrams.specs.Diagram.{branch, ref_of, same_node, same_entry};
 ghost use Rattle.uniques.specs.UniqueTable.{found, node_in, nodes_in, node_hash, NodesHeld, NodeMade};

@@ -1,4 +1,6 @@
 // The verdict program: reads two lists from standard input, judges them, and prints one line.
+#![tactic(auto)]
+
 use libc::{STDERR_FILENO, STDIN_FILENO, STDOUT_FILENO};
 
 // The most bytes that are read.

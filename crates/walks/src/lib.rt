@@ -1,4 +1,6 @@
 // The walk of a step: row and column walkers that call each other, the levels left falling, until a value is reached.
+#![tactic(auto)]
+
 ghost use Rattle.std.specs.Prelude.{map};
 ghost use Rattle.transitions.specs.Next.{numbered};
 ghost use Rattle.turns.specs.Work.{work};
