@@ -125,17 +125,18 @@ module _ (plan : List ℕ) (cols : List (List ℕ)) (vals : List (List ℤ)) (ro
     made_is : {t : Store Entry} → t ≡ empty → made P source first t ≡ diagram n result
     made_is e = rw (e, first_is, task.given.source) (start_made n right g M P task.fits task.planned valid)
 
-    by_walk : {p p' : Progress} {r : ℕ} → Shows 0 empty p → Walks (node_room w) (value_room w) P source first p p' r
+    by_walk : {p p' : Progress} {r : ℕ} → Walks (node_room w) (value_room w) P source first p p' r → Shows 0 empty p
         → Shows (get_or w'.tally 2 0) (store_in w') p' → Stepped lent n result w' r
-    by_walk (_, none) (progress.built within room below) (phase, store) =
+    by_walk (progress.built within room below) (_, none) (phase, store) =
         let same = made_is (sym none) in
         subst (λ (D : Diagram Entry). Stepped lent n result w' (code D.root)) (sym same)
         (built (sym inside_is ∙ within) (rw (← same) room) phase (store ∙ ap (λ (D : Diagram Entry). D.store) same))
-    by_walk (_, none) (progress.filled within room some) phase = too_large (sym inside_is ∙ within) (rw (← made_is (sym none)) room) phase
-    by_walk (_, none) (progress.left outside) phase = too_wide (sym inside_is ∙ outside) phase
-    by_walk never (progress.still_full within some) phase = absurd (omega (arith, never))
-    by_walk never (progress.left_full outside) phase = absurd (omega (arith, never))
+    by_walk (progress.filled within room some) (_, none) phase = too_large (sym inside_is ∙ within) (rw (← made_is (sym none)) room) phase
+    by_walk (progress.left outside) (_, none) phase = too_wide (sym inside_is ∙ outside) phase
+    by_walk (progress.still_full within some) never phase = absurd (omega (arith, never))
+    by_walk (progress.left_full outside) never phase = absurd (omega (arith, never))
+    by_walk progress.gone never phase = elim never [ ]
 
     -- what the walk leaves is the product's diagram, or it is refused
     pub steps : {r : ℕ} → Walked plan cols vals w first r w' → Stepped lent n result w' r
-    steps walked = by_walk (rw (building_is w (builds w fresh)) (refl, sym (stores_none w fresh))) walked.walks (shown w')
+    steps walked = by_walk walked.walks (rw (building_is w (builds w fresh)) (refl, sym (stores_none w fresh))) (shown w')

@@ -85,7 +85,20 @@ out_answered alive (still_full i x) (left_full j) = inr refl
 out_answered alive (left_full i) gone = inl refl
 out_answered alive gone gone = absurd (alive refl)
 
+-- a walk that is building at its end was building before, and answers with a reference
+built_only : {N L : ℕ} {plan : Plan} {s t : Store Entry} {σ : State} {p p' : Progress} {r : ℕ}
+    → Walks N L plan s σ p p' r → p' ≡ building t → (r < OUT) × ((u : Store Entry) × (p ≡ building u))
+built_only (built {t = u} i c x) e = (x, (u, refl))
+built_only (filled i c x) e = cc
+built_only (left i) e = cc
+built_only (still_full i x) e = cc
+built_only (left_full i) e = cc
+built_only gone e = cc
+
 -- building only with references
 pub built_answered : {N L : ℕ} {plan : Plan} {s t : Store Entry} {low high : State} {p p₁ : Progress} {l h : ℕ}
     → Walks N L plan s low p p₁ l → Walks N L plan s high p₁ (building t) h → (l < OUT) × (h < OUT)
-built_answered (built i c x) (built j d y) = (x, y)
+built_answered first second =
+    let after = built_only second refl in
+    let before = built_only first after.1.1 in
+    (before.0, after.0)

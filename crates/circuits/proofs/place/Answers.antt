@@ -2,7 +2,7 @@
 use Rattle.circuits.proofs.place.Goals as goal
 
 pub returns-in-Refused : goal.returns-in-Refused
-returns-in-Refused c = rw c.target-1.given.1
+returns-in-Refused c = rw c.in-Refused.is
 
 pub returns-in-Number : goal.returns-in-Number
-returns-in-Number c = rw c.target-in-Number-1.given.1
+returns-in-Number c = rw c.in-Number.is

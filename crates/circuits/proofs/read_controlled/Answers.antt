@@ -4,8 +4,8 @@ use Rattle.circuits.specs.Answers.{placed}
 use Rattle.circuits.proofs.read_controlled.Goals as goal
 
 pub returns-in-Refused : goal.returns-in-Refused
-returns-in-Refused c = rw (sym c.read_qubit.ensures ∙ c.why-1.given.1)
+returns-in-Refused c = rw (sym c.read_qubit.ensures ∙ c.in-Refused.is)
 
 pub returns-in-Number : goal.returns-in-Number
 returns-in-Number c =
-    rw (sym c.read_qubit.ensures ∙ c.value-1.given.1) (c.place.ensures ∙ ap (placed _ _) c.read_target.ensures)
+    rw (sym c.read_qubit.ensures ∙ c.in-Number.is) (c.place.ensures ∙ ap (placed _ _) c.read_target.ensures)

@@ -11,10 +11,10 @@ pub returns-in-Refused : goal.returns-in-Refused
 unfolding free_qubit
 returns-in-Refused c =
     checked_refused control_is_target (λ q. not (in_mask c.args.mask q)) (qubit c.args.qubits) _ _ c.read_qubit.ensures
-    c.why-1.given.1
+    c.in-Refused.is
 
 pub returns-in-Number : goal.returns-in-Number
 unfolding free_qubit
 returns-in-Number c =
     checked_kept control_is_target (λ q. not (in_mask c.args.mask q)) (qubit c.args.qubits) _ _ c.read_qubit.ensures
-    c.value-1.given.1 (ap not c.in_mask.ensures) c.kept.ensures
+    c.in-Number.is (ap not c.in_mask.ensures) c.kept.ensures

@@ -7,18 +7,18 @@ use Rattle.circuits.proofs.read_gate.Goals as goal
 
 pub returns-in-Refused : goal.returns-in-Refused
 unfolding gate
-returns-in-Refused c = rw (number_refused (number _ _) c.read_number.ensures c.why-1.given.1)
+returns-in-Refused c = rw (number_refused (number _ _) c.read_number.ensures c.in-Refused.is)
 
 pub returns-in-Unknown : goal.returns-in-Unknown
 unfolding gate
 returns-in-Unknown c =
     rw (
-      number_read (number _ _) c.read_number.ensures c.value-1.given.1,
-      decided_unknown _ c.decide.ensures.is c.enum_told-1.given.1,
+      number_read (number _ _) c.read_number.ensures c.in-Number.is,
+      decided_unknown _ c.decide.ensures.is c.in-Unknown.is,
     )
 
 pub returns-in-Known : goal.returns-in-Known
 unfolding gate
 returns-in-Known c =
-    rw (number_read (number _ _) c.read_number.ensures c.value-1.given.1)
-    (decided_known _ c.decide.ensures.is _ _ _ _ c.rule-1.given.1 c.read_operands.ensures)
+    rw (number_read (number _ _) c.read_number.ensures c.in-Number.is)
+    (decided_known _ c.decide.ensures.is _ _ _ _ c.in-Known.is c.read_operands.ensures)

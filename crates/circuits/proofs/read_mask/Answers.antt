@@ -11,10 +11,10 @@ pub returns-in-Refused : goal.returns-in-Refused
 unfolding mask
 returns-in-Refused c =
     checked_refused too_few_controls (λ m. leb c.args.least (ones m)) (mask_below c.args.qubits) _ _ c.read_mask_below.ensures
-    c.why-1.given.1
+    c.in-Refused.is
 
 pub returns-in-Number : goal.returns-in-Number
 unfolding mask
 returns-in-Number c =
     checked_kept too_few_controls (λ m. leb c.args.least (ones m)) (mask_below c.args.qubits) _ _ c.read_mask_below.ensures
-    c.value-1.given.1 refl c.kept.ensures
+    c.in-Number.is refl c.kept.ensures

@@ -10,10 +10,10 @@ pub returns-in-Refused : goal.returns-in-Refused
 unfolding mask_below
 returns-in-Refused c =
     checked_refused no_such_qubit (λ m. ltb m (2 ^ c.args.qubits)) number _ _ c.read_number.ensures
-    c.why-1.given.1
+    c.in-Refused.is
 
 pub returns-in-Number : goal.returns-in-Number
 unfolding mask_below
 returns-in-Number c =
     checked_kept no_such_qubit (λ m. ltb m (2 ^ c.args.qubits)) number _ _ c.read_number.ensures
-    c.value-1.given.1 c.below_count.ensures c.kept.ensures
+    c.in-Number.is c.below_count.ensures c.kept.ensures

@@ -4,10 +4,10 @@ use Rattle.circuits.specs.Answers.{placed}
 use Rattle.circuits.proofs.read_operands.Goals as goal
 
 pub returns-in-Qubit : goal.returns-in-Qubit
-returns-in-Qubit c = rw c.enum_told-1.given.1 (c.place.ensures ∙ ap (placed _ _) c.read_qubit.ensures)
+returns-in-Qubit c = rw c.in-Qubit.is (c.place.ensures ∙ ap (placed _ _) c.read_qubit.ensures)
 
 pub returns-in-Controlled : goal.returns-in-Controlled
-returns-in-Controlled c = rw c.enum_told-in-Controlled-1.given.1 c.read_controlled.ensures
+returns-in-Controlled c = rw c.in-Controlled.is c.read_controlled.ensures
 
 pub returns-in-Masked : goal.returns-in-Masked
-returns-in-Masked c = rw c.operands-1.given.1 c.read_masked.ensures
+returns-in-Masked c = rw c.in-Masked.is c.read_masked.ensures

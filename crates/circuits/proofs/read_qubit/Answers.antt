@@ -10,10 +10,10 @@ pub returns-in-Refused : goal.returns-in-Refused
 unfolding qubit
 returns-in-Refused c =
     checked_refused no_such_qubit (λ q. ltb q c.args.qubits) number _ _ c.read_number.ensures
-    c.why-1.given.1
+    c.in-Refused.is
 
 pub returns-in-Number : goal.returns-in-Number
 unfolding qubit
 returns-in-Number c =
     checked_kept no_such_qubit (λ q. ltb q c.args.qubits) number _ _ c.read_number.ensures
-    c.value-1.given.1 refl c.kept.ensures
+    c.in-Number.is refl c.kept.ensures

@@ -11,10 +11,10 @@ pub returns-in-Refused : goal.returns-in-Refused
 unfolding second_qubit
 returns-in-Refused c =
     checked_refused control_is_target (λ q. not (eqb q c.args.first)) (free_qubit c.args.qubits c.args.mask) _ _
-    c.read_free.ensures c.why-1.given.1
+    c.read_free.ensures c.in-Refused.is
 
 pub returns-in-Number : goal.returns-in-Number
 unfolding second_qubit
 returns-in-Number c =
     checked_kept control_is_target (λ q. not (eqb q c.args.first)) (free_qubit c.args.qubits c.args.mask) _ _
-    c.read_free.ensures c.value-1.given.1 refl c.kept.ensures
+    c.read_free.ensures c.in-Number.is refl c.kept.ensures

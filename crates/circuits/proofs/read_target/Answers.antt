@@ -11,10 +11,10 @@ pub returns-in-Refused : goal.returns-in-Refused
 unfolding target_qubit
 returns-in-Refused c =
     checked_refused control_is_target (λ q. not (eqb q c.args.control)) (qubit c.args.qubits) _ _ c.read_qubit.ensures
-    c.why-1.given.1
+    c.in-Refused.is
 
 pub returns-in-Number : goal.returns-in-Number
 unfolding target_qubit
 returns-in-Number c =
     checked_kept control_is_target (λ q. not (eqb q c.args.control)) (qubit c.args.qubits) _ _ c.read_qubit.ensures
-    c.value-1.given.1 refl c.kept.ensures
+    c.in-Number.is refl c.kept.ensures

@@ -4,8 +4,8 @@ use Rattle.circuits.specs.Answers.{swapped}
 use Rattle.circuits.proofs.read_targets.Goals as goal
 
 pub returns-in-Refused : goal.returns-in-Refused
-returns-in-Refused c = rw (sym c.read_free.ensures ∙ c.why-1.given.1)
+returns-in-Refused c = rw (sym c.read_free.ensures ∙ c.in-Refused.is)
 
 pub returns-in-Number : goal.returns-in-Number
 returns-in-Number c =
-    rw (sym c.read_free.ensures ∙ c.value-1.given.1) (c.swap.ensures ∙ ap (swapped _ _ _) c.read_second.ensures)
+    rw (sym c.read_free.ensures ∙ c.in-Number.is) (c.swap.ensures ∙ ap (swapped _ _ _) c.read_second.ensures)

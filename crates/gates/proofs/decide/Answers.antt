@@ -70,9 +70,9 @@ returns-in-3 c = known c.unturned-in-3.ensures c.in-3.is refl
 -- the codes that the arms before it leave, from 0 up: none below 12
 pub returns-in-12-to-4294967295 : goal.returns-in-12-to-4294967295
 returns-in-12-to-4294967295 c =
-    let moved = c.in-12-to-4294967295.rest.0 in
+    let moved = c.in-12-to-4294967295.in-12-to-4294967295-own.rest.0 in
     let diagonal = moved.0.0.0.0.0 in
-    let above_3 = past (past (past (past zero-le moved.0.0.0.0.1) moved.0.0.0.1) diagonal.0.0.0.0.0.1) c.in-12-to-4294967295.rest.1 in
+    let above_3 = past (past (past (past zero-le moved.0.0.0.0.1) moved.0.0.0.1) diagonal.0.0.0.0.0.1) c.in-12-to-4294967295.in-12-to-4294967295-own.rest.1 in
     let above_7 = past (past (past (past above_3 diagonal.0.0.0.0.1) diagonal.0.0.0.1) diagonal.0.0.1) diagonal.0.1 in
     let above_9 = past (past above_7 moved.0.0.1) diagonal.1 in
     beyond c.args.code (past (past above_9 moved.0.1) moved.1)

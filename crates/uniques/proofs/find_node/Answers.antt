@@ -1,0 +1,64 @@
+-- `uniques::find_node` meets its contract. The loop's invariant: p is a number of the node's chain, and the node is not among
+-- those from p on. The measure is p. Assumes nothing.
+use Prim.Native.Nat.{◌-◌, ◌<◌}
+use lib.ListN.{get_or}
+use native.Mathlib.Omega.{arith}
+use Rattle.diagrams.specs.Diagram.{branch, ref_of, unused}
+use Rattle.uniques.specs.UniqueTable.{nodes_in, node_hash}
+use Rattle.diagrams.proofs.Tests.{node_decides}
+use Rattle.uniques.proofs.Chains.{Searching, search_starts, turn_within, turn_again, turn_found, turns_end}
+use Rattle.uniques.proofs.Hashes.{node_hash_below}
+use Rattle.uniques.proofs.NodeTables.{InColumns, in_columns}
+use Rattle.uniques.proofs.find_node.Goals.{Else-node_is, In-loop-p}
+use Rattle.uniques.proofs.find_node.Goals as goal
+
+-- slot p − 1 is in every column
+within : (c : In-loop-p) → let at = c.args in
+    InColumns at.level.now at.low.now at.high.now at.index.now (c.loop-p.p - 1)
+within c =
+    let held = c.requires.nodes_held in
+    let w = turn_within _ _ held.indexed _ c.loop-p.p c.loop-p.invariant c.loop-p-test.true in
+    in_columns held (c.loop-p.p - 1) (omega (arith, w.0, w.1))
+
+pub loop-p-init : goal.loop-p-init
+loop-p-init c =
+    search_starts c.requires.nodes_held.indexed _ c.args.first (node_hash_below c.args.heads _ c.requires.nodes_held.indexed.some_head) c.requires.first_value
+
+pub overflow_sub-i : goal.overflow_sub-i
+overflow_sub-i c = omega arith
+
+pub overflow_cast-i : goal.overflow_cast-i
+overflow_cast-i c = record { fits = omega (arith, (within c).small) }
+
+pub node_is-requires : goal.node_is-requires
+node_is-requires c = ((within c).in_level, (within c).in_low, (within c).in_high)
+
+pub returns-then-node_is : goal.returns-then-node_is
+returns-then-node_is c =
+    turn_found _ _ c.requires.nodes_held.indexed _ node_decides c.loop-p.p c.loop-p.invariant c.loop-p-test.true
+    c.node_is.ensures c.if-node_is.true
+
+pub offset_bounds-index-i : goal.offset_bounds-index-i
+offset_bounds-index-i c = record { fits = omega (arith, (within ((goal.at.offset_bounds-index-i c).In-loop-p)).small) }
+
+pub bounds-index-i : goal.bounds-index-i
+bounds-index-i c = (within ((goal.at.bounds-index-i c).In-loop-p)).in_index
+
+-- on to the next number of the chain
+again : (c : Else-node_is) → let at = c.args in
+    let ns = nodes_in at.used at.level.now at.low.now at.high.now in
+    let next = get_or at.index.now (c.loop-p.p - 1) 0 in
+    Searching (node_hash at.heads) unused ns (branch at.lv (ref_of at.lo) (ref_of at.hi)) next × (next < c.loop-p.p)
+again c =
+    turn_again _ _ c.requires.nodes_held.indexed _ node_decides c.loop-p.p c.loop-p.invariant c.loop-p-test.true
+    c.node_is.ensures c.if-node_is.false
+
+pub loop-p-smaller : goal.loop-p-smaller
+loop-p-smaller c = (again ((goal.at.loop-p-smaller c).Else-node_is)).1
+
+pub loop-p-preserved : goal.loop-p-preserved
+loop-p-preserved c = (again ((goal.at.loop-p-preserved c).Else-node_is)).0
+
+pub returns : goal.returns
+returns c =
+    turns_end _ _ c.requires.nodes_held.indexed _ node_decides c.loop-p.p c.loop-p.invariant c.loop-p-test.false
