@@ -1,7 +1,7 @@
 -- A gate's data: how it acts on its target where its controls are 1, and what that does to a matrix's entries. The gates by kind as in
 -- Gate.antt, multiplication from the right before that from the left. Definitions only; that the data are the published matrices' is in
 -- proofs/Rules.antt.
-use Rattle.std.specs.Prelude.{◌≡◌, Bool, true, false, not, cond, [], ℕ, zero, min, max, set}
+use Rattle.std.specs.Prelude.{◌≡◌, Bool, true, false, not, cond, ℕ, min, max, set}
 use Rattle.std.specs.Bool.{beq}
 use Rattle.algebra.specs.declared.Entry.{Entry}
 use Rattle.algebra.specs.Entry.{𝟘, 𝟙, neg, ◌⊕◌, ◌⊖◌, turned, w8^}

@@ -1,6 +1,5 @@
 -- `cofactors::look` meets its contract: a value, a node of another level, a node of the level asked for.
 -- Assumes nothing.
-use native.Mathlib.Omega.{arith}
 use Rattle.cofactors.proofs.Children.{sides_value, sides_past, sides_down}
 use Rattle.cofactors.proofs.look.Goals as goal
 
@@ -10,20 +9,11 @@ returns-then-r-eq0 c =
     let sides = sides_value at.level.now at.low.now at.high.now at.asked at.r c.if-r-eq0.true in
     record { low = sides.0; high = sides.1 }
 
-pub bounds-level-i : goal.bounds-level-i
-bounds-level-i c = c.requires.in_level (omega arith)
-
 pub returns-then-level-i : goal.returns-then-level-i
 returns-then-level-i c =
     let at = c.args in
     let sides = sides_past at.level.now at.low.now at.high.now at.asked at.r c.if-r-eq0.false c.if-level-i.true in
     record { low = sides.0; high = sides.1 }
-
-pub bounds-low-i : goal.bounds-low-i
-bounds-low-i c = c.requires.in_low (omega arith)
-
-pub bounds-high-i : goal.bounds-high-i
-bounds-high-i c = c.requires.in_high (omega arith)
 
 pub returns : goal.returns
 returns c =

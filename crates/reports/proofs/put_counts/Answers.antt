@@ -4,18 +4,6 @@ use Rattle.reports.specs.Line.{counts}
 use Rattle.reports.proofs.Puts.{put_then}
 use Rattle.reports.proofs.put_counts.Goals as goal
 
-pub put_named-steps-requires : goal.put_named-steps-requires
-put_named-steps-requires c = omega arith
-
-pub put_named-nodes-requires : goal.put_named-nodes-requires
-put_named-nodes-requires c = omega arith
-
-pub put_named-values-requires : goal.put_named-values-requires
-put_named-values-requires c = omega arith
-
-pub put_named-requires : goal.put_named-requires
-put_named-requires c = omega arith
-
 pub returns : goal.returns
 unfolding counts
 returns c =

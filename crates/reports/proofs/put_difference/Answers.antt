@@ -4,18 +4,6 @@ use Rattle.reports.specs.Line.{difference}
 use Rattle.reports.proofs.Puts.{put_then}
 use Rattle.reports.proofs.put_difference.Goals as goal
 
-pub put_named-column-requires : goal.put_named-column-requires
-put_named-column-requires c = omega arith
-
-pub put_named-entry-requires : goal.put_named-entry-requires
-put_named-entry-requires c = omega arith
-
-pub put_entry-corner-requires : goal.put_entry-corner-requires
-put_entry-corner-requires c = omega arith
-
-pub put_entry-requires : goal.put_entry-requires
-put_entry-requires c = omega arith
-
 pub returns : goal.returns
 unfolding difference
 returns c =

@@ -5,21 +5,6 @@ use Rattle.reports.proofs.Puts.{put_then}
 use Rattle.reports.proofs.Signs.{numbers_held}
 use Rattle.reports.proofs.put_entry.Goals as goal
 
-pub put_words-a-requires : goal.put_words-a-requires
-put_words-a-requires c = omega arith
-
-pub put_whole-b-requires : goal.put_whole-b-requires
-put_whole-b-requires c = omega arith
-
-pub put_whole-c-requires : goal.put_whole-c-requires
-put_whole-c-requires c = omega arith
-
-pub put_whole-d-requires : goal.put_whole-d-requires
-put_whole-d-requires c = omega arith
-
-pub put_whole-requires : goal.put_whole-requires
-put_whole-requires c = omega arith
-
 pub returns : goal.returns
 unfolding numbers
 returns c =

@@ -4,9 +4,6 @@ use Rattle.reports.proofs.Decimals.{length_digits_32}
 use Rattle.reports.proofs.Puts.{put_then, put_within}
 use Rattle.reports.proofs.put_named.Goals as goal
 
-pub put_words-next-requires : goal.put_words-next-requires
-put_words-next-requires c = omega arith
-
 pub put_digits-requires : goal.put_digits-requires
 put_digits-requires c = omega (arith, length_digits_32 _ c.ranges.n.fits)
 

@@ -6,9 +6,6 @@ use Rattle.reports.proofs.put_whole.Goals as goal
 
 -- ---- below zero
 
-pub put_byte-first-requires : goal.put_byte-first-requires
-put_byte-first-requires c = omega arith
-
 pub put_digits-requires : goal.put_digits-requires
 put_digits-requires c =
     omega (arith, magnitude_short c.ranges.z c.magnitude.ensures)

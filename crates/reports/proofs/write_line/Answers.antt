@@ -5,4 +5,6 @@ use Rattle.reports.proofs.write_line.Goals as goal
 
 pub returns : goal.returns
 unfolding line
-returns c = put_first (put_then c.put_answer-end.ensures c.put_byte.ensures)
+returns c =
+    let all = put_first (put_then c.put_answer-end.ensures c.put_byte.ensures) in
+    record { length = all.0; short = all.1.0; contents = all.1.1 }

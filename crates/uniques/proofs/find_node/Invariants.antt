@@ -1,6 +1,5 @@
 -- `uniques::find_node` meets its contract. The loop's invariant: p is a number of the node's chain, and the node is not among
 -- those from p on. The measure is p. Assumes nothing.
-use Prim.Native.Nat.{◌-◌}
 use Rattle.diagrams.specs.Diagram.{branch, ref_of, unused}
 use Rattle.uniques.specs.UniqueTable.{nodes_in, node_hash}
 use Rattle.uniques.proofs.Chains.{Searching}

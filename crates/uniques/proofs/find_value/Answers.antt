@@ -1,18 +1,19 @@
 -- `uniques::find_value` meets its contract. The loop's invariant: p is a number of the terminal's chain, and the terminal is not
 -- among those from p on. The measure is p. Assumes nothing.
 use mathlib.Core.Path.{◌≡◌, ◌∙◌, ap}
+use mathlib.Core.Bool.{Bool}
 use Prim.Native.Nat.{◌-◌, ◌<◌}
 use native.Mathlib.Omega.{arith}
 use lib.ListN.{get_or}
 use Rattle.algebra.specs.declared.Entry.{Entry}
 use Rattle.algebra.specs.Entry.{𝟘}
 use Rattle.diagrams.specs.Diagram.{same_entry}
-use Rattle.uniques.specs.UniqueTable.{entry_in, values_in, value_hash}
+use Rattle.uniques.specs.UniqueTable.{values_in, value_hash}
 use Rattle.diagrams.proofs.Tests.{entry_decides}
 use Rattle.uniques.proofs.Chains.{Searching, search_starts, turn_within, turn_again, turn_found, turns_end}
 use Rattle.uniques.proofs.Hashes.{value_hash_below}
 use Rattle.uniques.proofs.ValueTables.{InSlots, in_slots}
-use Rattle.uniques.proofs.find_value.Goals.{After-same_entry, Else-same_entry, In-loop-p}
+use Rattle.uniques.proofs.find_value.Goals.{Else-same_entry, In-loop-p}
 use Rattle.uniques.proofs.find_value.Goals as goal
 
 -- the slots of terminal p − 1 are there
@@ -39,14 +40,13 @@ pub same_entry-requires : goal.same_entry-requires
 same_entry-requires c = tt
 
 -- what the test says of the terminal
-tested : (c : After-same_entry) → let at = c.args in
-    c.same_entry.result ≡ same_entry (entry_in at.vals.now (c.loop-p.p - 1)) at.e
-tested c = c.same_entry.ensures ∙ ap (λ (x : Entry). same_entry x c.args.e) c.read_value.ensures
+tested : (e : Entry) {x y : Entry} {t : Bool} → t ≡ same_entry x e → x ≡ y → t ≡ same_entry y e
+tested e is read = is ∙ ap (λ (x : Entry). same_entry x e) read
 
 pub returns-then-same_entry : goal.returns-then-same_entry
 returns-then-same_entry c =
     turn_found _ _ c.requires.values_held.indexed _ entry_decides c.loop-p.p c.loop-p.invariant c.loop-p-test.true
-    (tested ((goal.at.returns-then-same_entry c).After-same_entry)) c.if-same_entry.true
+    (tested c.args.e c.same_entry.ensures c.read_value.ensures) c.if-same_entry.true
 
 pub offset_bounds-index-j : goal.offset_bounds-index-j
 offset_bounds-index-j c = record { fits = omega (arith, (within ((goal.at.offset_bounds-index-j c).In-loop-p)).small) }
@@ -60,7 +60,7 @@ again : (c : Else-same_entry) → let at = c.args in
     Searching (value_hash at.heads) 𝟘 (values_in at.used at.vals.now) at.e next × (next < c.loop-p.p)
 again c =
     turn_again _ _ c.requires.values_held.indexed _ entry_decides c.loop-p.p c.loop-p.invariant c.loop-p-test.true
-    (tested (⁇After-same_entry⁇)) c.if-same_entry.false
+    (tested c.args.e c.same_entry.ensures c.read_value.ensures) c.if-same_entry.false
 
 pub loop-p-smaller : goal.loop-p-smaller
 loop-p-smaller c = (again ((goal.at.loop-p-smaller c).Else-same_entry)).1

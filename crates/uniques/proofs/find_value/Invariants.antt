@@ -1,6 +1,5 @@
 -- `uniques::find_value` meets its contract. The loop's invariant: p is a number of the terminal's chain, and the terminal is not
 -- among those from p on. The measure is p. Assumes nothing.
-use Prim.Native.Nat.{◌-◌}
 use Rattle.algebra.specs.Entry.{𝟘}
 use Rattle.uniques.specs.UniqueTable.{values_in, value_hash}
 use Rattle.uniques.proofs.Chains.{Searching}

@@ -4,7 +4,7 @@ use mathlib.Core.List.{List}
 use Prim.Native.Nat.{ℕ, ◌+◌, ◌<◌, ◌≤◌}
 use native.Mathlib.Omega.{arith}
 use lib.ListN.{length, get_or, length-set}
-use Rattle.diagrams.specs.Diagram.{Node, branch, ref_of, unused}
+use Rattle.diagrams.specs.Diagram.{branch, ref_of, unused}
 use Rattle.uniques.specs.UniqueTable.{node_in, nodes_in}
 use Rattle.diagrams.proofs.Tests.{node_decides}
 use Rattle.uniques.proofs.Chains.{length_listed, found_bound}
@@ -15,21 +15,15 @@ use Rattle.uniques.proofs.make_node.Goals as goal
 
 -- ---- places on the way
 
-abbrev wanted : After-hash_node → Node
-wanted c = let at = c.args in branch at.lv (ref_of at.lo) (ref_of at.hi)
-
-abbrev old-nodes : After-hash_node → List Node
-old-nodes c = let at = c.args in nodes_in at.used at.level.now at.low.now at.high.now
-
 -- the head of the chain is in the index
 head_in : (c : After-hash_node) → length c.args.level.now + c.hash_node.result < length c.args.index.now
 head_in c =
     let held = c.requires in
-    omega (arith, c.hash_node.ensures, node_hash_below c.args.heads (wanted c) held.indexed.some_head, held.indexed.long)
+    omega (arith, c.hash_node.ensures, node_hash_below c.args.heads (branch c.args.lv (ref_of c.args.lo) (ref_of c.args.hi)) held.indexed.some_head, held.indexed.long)
 
 -- as many nodes as slots used
-used_is : (c : After-hash_node) → c.args.used ≡ length (old-nodes c)
-used_is c = let at = c.args in sym (length_listed at.used (node_in at.level.now at.low.now at.high.now))
+used_is : (used : ℕ) (level low high : List ℕ) → used ≡ length (nodes_in used level low high)
+used_is used level low high = sym (length_listed used (node_in level low high))
 
 -- what is found is among the slots used
 small : (c : After-find_node-p) → c.find_node-p.result ≤ 65536
@@ -38,14 +32,15 @@ small c =
     let held = c.requires in
     omega (
       arith,
-      found_bound node_decides unused (wanted (⁇After-hash_node⁇)) (old-nodes (⁇After-hash_node⁇)) c.find_node-p.result c.find_node-p.ensures,
+      found_bound node_decides unused (branch at.lv (ref_of at.lo) (ref_of at.hi)) (nodes_in at.used at.level.now at.low.now at.high.now)
+          c.find_node-p.result c.find_node-p.ensures,
       held.indexed.room,
       held.indexed.limit,
     )
 
 -- a slot is left
 left : (c : Else-i-level) → let at = c.args in at.used < length at.level.now
-left c = omega (arith, used_is (⁇After-hash_node⁇), c.requires.indexed.room, c.if-i-level.false)
+left c = let at = c.args in omega (arith, used_is at.used at.level.now at.low.now at.high.now, c.requires.indexed.room, c.if-i-level.false)
 
 free : (c : Else-i-level) → let at = c.args in
     InColumns at.level.now at.low.now at.high.now at.index.now at.used
@@ -65,7 +60,7 @@ bounds-index-head c = head_in ((goal.at.bounds-index-head c).After-hash_node)
 
 pub find_node-p-requires : goal.find_node-p-requires
 find_node-p-requires c =
-    (c.requires, ap (λ (h : ℕ). get_or c.args.index.now (length c.args.level.now + h) 0) c.hash-node.ensures)
+    record { nodes_held = c.requires; first_value = ap (λ (h : ℕ). get_or c.args.index.now (length c.args.level.now + h) 0) c.hash_node.ensures }
 
 pub overflow_mul-result : goal.overflow_mul-result
 overflow_mul-result c = omega (arith, small ((goal.at.overflow_mul-result c).After-find_node-p))
@@ -76,13 +71,13 @@ overflow_add-result c = omega (arith, small ((goal.at.overflow_add-result c).Aft
 pub returns-then-p-ne0 : goal.returns-then-p-ne0
 returns-then-p-ne0 c =
     let at = c.args in
-    made_found c.requires at.lv at.lo at.hi c.if-lo-hi.left c.find_node-p.result c.find_node-p.ensures c.if-p-ne0.true
+    made_found c.requires at.lv at.lo at.hi c.if-lo-hi.false c.find_node-p.result c.find_node-p.ensures c.if-p-ne0.true
 
 pub returns-then-i-level : goal.returns-then-i-level
 returns-then-i-level c =
     let at = c.args in
-    made_full c.requires at.lv at.lo at.hi c.if-lo-hi.left c.find_node-p.result c.find_node-p.ensures c.if-p-ne0.false
-    (omega (arith, used_is ((goal.at.returns-then-i-level c).After-hash_node), c.if-i-level.true))
+    made_full c.requires at.lv at.lo at.hi c.if-lo-hi.false c.find_node-p.result c.find_node-p.ensures c.if-p-ne0.false
+    (omega (arith, used_is at.used at.level.now at.low.now at.high.now, c.if-i-level.true))
 
 pub offset_bounds-level-i : goal.offset_bounds-level-i
 offset_bounds-level-i c = omega (arith, (free c).small)
@@ -112,7 +107,7 @@ pub overflow_add-index : goal.overflow_add-index
 overflow_add-index c = omega (arith, (free c).small)
 
 pub offset_bounds-index-head-2 : goal.offset_bounds-index-head-2
-offset_bounds-index-head-2 c = omega (arith, head_in ((goal.at.offset_bounds-index-head-2 c).After-hash_node), c.good)
+offset_bounds-index-head-2 c = omega (arith, head_in ((goal.at.offset_bounds-index-head-2 c).After-hash_node), c.well_formed)
 
 pub bounds-index-head-2 : goal.bounds-index-head-2
 bounds-index-head-2 c = simp length-set (head_in ((goal.at.bounds-index-head-2 c).After-hash_node))
@@ -138,5 +133,5 @@ shape_of-index c = simp length-set
 pub returns : goal.returns
 returns c =
     let at = c.args in
-    made_next c.requires at.lv at.lo at.hi c.if-lo-hi.left c.find_node-p.result c.find_node-p.ensures
-    c.hash_node.result at.used _ c.hash_node.ensures c.if-p-ne0.false (used_is ((goal.at.returns c).After-hash_node)) (left c) refl
+    made_next c.requires at.lv at.lo at.hi c.if-lo-hi.false c.find_node-p.result c.find_node-p.ensures
+    c.hash_node.result at.used _ c.hash_node.ensures c.if-p-ne0.false (used_is at.used at.level.now at.low.now at.high.now) (left c) refl

@@ -3,8 +3,8 @@ use mathlib.Core.Path.{◌≡◌, refl, sym, ap}
 use mathlib.Core.List.{List}
 use Prim.Native.Nat.{ℕ, ◌+◌, ◌/◌, ◌<◌, ◌≤◌}
 use native.Mathlib.Omega.{arith}
+use lib.IntN.{ℤ}
 use lib.ListN.{length, get_or, length-set}
-use Rattle.algebra.specs.declared.Entry.{Entry}
 use Rattle.algebra.specs.Entry.{𝟘}
 use Rattle.uniques.specs.UniqueTable.{entry_in, values_in}
 use Rattle.diagrams.proofs.Tests.{entry_decides}
@@ -16,9 +16,6 @@ use Rattle.uniques.proofs.make_value.Goals as goal
 
 -- ---- places on the way
 
-abbrev old-values : After-hash_value → List Entry
-old-values c = let at = c.args in values_in at.used at.vals.now
-
 -- the head of the chain is in the index
 head_in : (c : After-hash_value) → length c.args.vals.now / 4 + c.hash_value.result < length c.args.index.now
 head_in c =
@@ -26,8 +23,8 @@ head_in c =
     omega (arith, c.hash_value.ensures, value_hash_below c.args.heads c.args.e held.indexed.some_head, held.indexed.long)
 
 -- as many terminals as are used
-used_is : (c : After-hash_value) → c.args.used ≡ length (old-values c)
-used_is c = let at = c.args in sym (length_listed at.used (entry_in at.vals.now))
+used_is : (used : ℕ) (vals : List ℤ) → used ≡ length (values_in used vals)
+used_is used vals = sym (length_listed used (entry_in vals))
 
 -- what is found is among them
 small : (c : After-find_value-p) → c.find_value-p.result ≤ 65536
@@ -35,14 +32,14 @@ small c =
     let held = c.requires in
     omega (
       arith,
-      found_bound entry_decides 𝟘 c.args.e (old-values (⁇After-hash_value⁇)) c.find_value-p.result c.find_value-p.ensures,
+      found_bound entry_decides 𝟘 c.args.e (values_in c.args.used c.args.vals.now) c.find_value-p.result c.find_value-p.ensures,
       held.indexed.room,
       held.indexed.limit,
     )
 
 -- a slot is left
 left : (c : Else-j-room) → let at = c.args in at.used < length at.vals.now / 4
-left c = omega (arith, used_is (⁇After-hash_value⁇), c.requires.indexed.room, c.if-j-room.false)
+left c = omega (arith, used_is c.args.used c.args.vals.now, c.requires.indexed.room, c.if-j-room.false)
 
 free : (c : Else-j-room) → let at = c.args in InSlots at.vals.now at.index.now at.used
 free c = in_slots c.requires c.args.used (left c)
@@ -58,7 +55,7 @@ bounds-index-head c = head_in ((goal.at.bounds-index-head c).After-hash_value)
 
 pub find_value-p-requires : goal.find_value-p-requires
 find_value-p-requires c =
-    (c.requires, ap (λ (h : ℕ). get_or c.args.index.now (length c.args.vals.now / 4 + h) 0) c.hash-value.ensures)
+    record { values_held = c.requires; first_value = ap (λ (h : ℕ). get_or c.args.index.now (length c.args.vals.now / 4 + h) 0) c.hash_value.ensures }
 
 pub overflow_mul-result : goal.overflow_mul-result
 overflow_mul-result c = omega (arith, small ((goal.at.overflow_mul-result c).After-find_value-p))
@@ -70,7 +67,7 @@ returns-then-p-ne0 c =
 pub returns-then-j-room : goal.returns-then-j-room
 returns-then-j-room c =
     made_full c.requires c.args.e c.find_value-p.result c.find_value-p.ensures c.if-p-ne0.false
-    (omega (arith, used_is ((goal.at.returns-then-j-room c).After-hash_value), c.if-j-room.true))
+    (omega (arith, used_is c.args.used c.args.vals.now, c.if-j-room.true))
 
 pub write_value-requires : goal.write_value-requires
 write_value-requires c = (free ((goal.at.write_value-requires c).Else-j-room)).in_vals
@@ -85,16 +82,13 @@ pub overflow_add-index : goal.overflow_add-index
 overflow_add-index c = omega (arith, (free ((goal.at.overflow_add-index c).Else-j-room)).small)
 
 pub offset_bounds-index-head-2 : goal.offset_bounds-index-head-2
-offset_bounds-index-head-2 c = omega (arith, head_in ((goal.at.offset_bounds-index-head-2 c).After-hash_value), c.good)
+offset_bounds-index-head-2 c = omega (arith, head_in ((goal.at.offset_bounds-index-head-2 c).After-hash_value), c.well_formed)
 
 pub bounds-index-head-2 : goal.bounds-index-head-2
 bounds-index-head-2 c = simp length-set (head_in ((goal.at.bounds-index-head-2 c).After-hash_value))
 
 pub overflow_mul-result-2 : goal.overflow_mul-result-2
 overflow_mul-result-2 c = omega (arith, (free ((goal.at.overflow_mul-result-2 c).Else-j-room)).small)
-
-pub shape_of-vals : goal.shape_of-vals
-shape_of-vals c = c.write_value.auto.0
 
 pub shape_of-index : goal.shape_of-index
 shape_of-index c = simp length-set
@@ -103,5 +97,5 @@ pub returns : goal.returns
 returns c =
     let at = c.args in
     made_next c.requires at.e c.find_value-p.result c.find_value-p.ensures
-    c.hash_value.result at.used _ c.hash_value.ensures c.if-p-ne0.false (used_is ((goal.at.returns c).After-hash_value))
+    c.hash_value.result at.used _ c.hash_value.ensures c.if-p-ne0.false (used_is c.args.used c.args.vals.now)
     (left ((goal.at.returns c).Else-j-room)) refl c.write_value.ensures

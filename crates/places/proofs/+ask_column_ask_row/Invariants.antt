@@ -1,0 +1,9 @@
+-- The measure of both is the number of levels left.
+-- Assumes nothing.
+use Rattle.places.proofs.+ask_column_ask_row.Given as goal
+
+abbrev pub decreases-ask_column : goal.decreases-ask_column
+decreases-ask_column l = l.left
+
+abbrev pub decreases-ask_row : goal.decreases-ask_row
+decreases-ask_row l = l.left
