@@ -1,7 +1,7 @@
 /*
  * Gannetrope: exact, proved equivalence of Clifford+T circuits.
  *
- * The static library is target/staticlib/libcapi.a, for x86-64 Linux; `rt staticlib capi` makes it. Its functions are
+ * The static library is target/staticlib/libcapi.a, for x86-64 Linux; `scripts/build library` makes it. Its functions are
  * proved to meet their contracts for every input that the rules below allow.
  *
  * Rules for every pair of a pointer and a length:

@@ -22,12 +22,12 @@ find_program() {
     [ -x "$program" ] || build "$1"
 }
 
-# Proves and builds the program. The prover says much, of which its own lines, one for each crate, show how far it is.
+# Proves and builds the program. The prover says much, of which its own lines show how far it is.
 build() {
     command -v rt >/dev/null || stop $UNUSABLE "the Rattle toolchain is missing: put its command 'rt' on the PATH"
     mkdir -p "$root/target" || stop $UNUSABLE "there is no room for the program"
     echo "$name: building the $1 program, which takes minutes; the prover's output goes to $log" >&2
-    (cd "$root" && rt check "$1" </dev/null 2>&1) | tee "$log" | grep --line-buffered '^rt: ' >&2
+    "$root/scripts/build" "$1" </dev/null 2>&1 | tee "$log" | grep --line-buffered '^rt: ' >&2
     [ "${PIPESTATUS[0]}" -eq 0 ] && [ -x "$program" ] && return
     rm -f "$program" # or the next run would take it for a good one
     stop $UNUSABLE "the build failed: see $log"

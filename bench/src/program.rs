@@ -12,7 +12,7 @@ use std::time::{Duration, Instant};
 
 const RUNS: usize = 300;
 
-/// The path in `GANNETROPE_VERDICT`, else where `rt check verdict` leaves the program; `None` if nothing is there.
+/// The path in `GANNETROPE_VERDICT`, else where `scripts/build verdict` leaves the program; `None` if nothing is there.
 pub fn path() -> Option<PathBuf> {
     let path = match std::env::var_os("GANNETROPE_VERDICT") {
         Some(path) => PathBuf::from(path),

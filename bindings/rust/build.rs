@@ -1,4 +1,4 @@
-//! Links the proved static library from `GANNETROPE_LIB_DIR`, or from where `rt staticlib capi` leaves it.
+//! Links the proved static library from `GANNETROPE_LIB_DIR`, or from where `scripts/build library` leaves it.
 
 use std::{env, path::PathBuf};
 
@@ -8,7 +8,7 @@ fn main() {
     let directory = library_directory();
     let archive = directory.join(ARCHIVE);
     if !archive.is_file() {
-        println!("cargo::error={} is missing: run `rt staticlib capi`, or set GANNETROPE_LIB_DIR", archive.display());
+        println!("cargo::error={} is missing: run `scripts/build library`, or set GANNETROPE_LIB_DIR", archive.display());
         return;
     }
     println!("cargo::rerun-if-env-changed=GANNETROPE_LIB_DIR");

@@ -28,6 +28,7 @@ impl Script {
     /// A folder with the script and a list, but no program.
     fn unbuilt(&self, home: &Path) -> Folder {
         let folder = Folder::with_scripts("unbuilt", home, &[self.name]);
+        folder.write(&format!("crates/{}/src/main.rt", self.program), b"");
         folder.write("list", &list(&on_one_qubit(&[])));
         folder
     }
@@ -38,19 +39,20 @@ impl Script {
         bash(&folder.path, &command, &[])?.check(status, b"", errors)
     }
 
-    /// A stand-in for the prover, which prints as it does.
+    /// A stand-in for the prover, which is run in the program's folder, speaks on standard error, and runs what it built.
     fn prover(&self) -> String {
-        let Script { name, program, .. } = self;
+        let program = self.program;
         format!(
-            "[ \"$*\" = 'check {program}' ] && [ -f {name} ] || exit 9
-            echo 'fn algebra::sum: proved'
-            echo 'rt: algebra proved (6 s)'
+            "[ \"$*\" = run ] && [ \"${{PWD##*/}}\" = {program} ] && [ -f src/main.rt ] || exit 9
+            echo 'fn algebra::sum: proved' >&2
+            echo 'rt: algebra proved (6 s)' >&2
             echo 'library std: modules loaded=0' >&2
-            echo 'rt: {program} proved (1 s)'
-            mkdir -p target/bin
-            printf '#!/bin/sh\\necho done\\n' >target/bin/{program}
-            chmod +x target/bin/{program}
-            echo 'rt: ok, 2 crates'"
+            echo 'rt: {program} proved (1 s)' >&2
+            mkdir -p out
+            printf '#!/bin/sh\\necho done\\n' >out/{program}
+            chmod +x out/{program}
+            echo 'rt: ok, 2 crates' >&2
+            out/{program}"
         )
     }
 }

@@ -26,10 +26,10 @@ impl Folder {
         Folder { path }
     }
 
-    /// A folder with copies of some scripts and of what they share; they look for their programs in it.
+    /// A folder with copies of some scripts and of those that they call or share; they look for their programs in it.
     pub fn with_scripts(name: &str, home: &Path, scripts: &[&str]) -> Folder {
         let folder = Folder::new(name);
-        for script in scripts.iter().chain(&["scripts/common.bash"]) {
+        for script in scripts.iter().chain(&["scripts/common.bash", "scripts/build"]) {
             folder.write_script(script, &fs::read(home.join("..").join(script)).expect("a script"));
         }
         folder

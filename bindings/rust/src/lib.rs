@@ -23,7 +23,7 @@
 //!
 //! # Building
 //!
-//! `rt staticlib capi` makes the static library that this crate links, in `target/staticlib` of the repository;
+//! `scripts/build library` makes the static library that this crate links, in `target/staticlib` of the repository;
 //! `GANNETROPE_LIB_DIR` names another directory.
 
 mod inverse;

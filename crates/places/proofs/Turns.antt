@@ -205,9 +205,6 @@ module _ {level low high : List ℕ} {task : Task} {left r row column : ℕ} (at
         ending true = refl
         ending false = refl
 
-  pub level_fits : Fits w32 (task.levels - left + 1)
-  level_fits = record { fits = omega (arith, 𝓢.few_levels) }
-
   module _ (some : left ≡ 0 → ⊥) where
     half_left : (p : ℕ) × (left - 1 ≡ suc (levels p))
     half_left = one_fewer left at.qubits_left at.whole some

@@ -251,9 +251,9 @@ fn check_constant(gate: &Row, decision: &str) -> Checked {
 fn check_names(gate: &Row) -> Checked {
     let (name, lower) = (&gate.name, gate.name.to_lowercase());
     let definitions = match (gate.operands.controls, gate.operands.masked) {
-        (0, _) => [format!("small {name}"), format!("inverse-kind {name}"), format!("kind-rule {name}")],
-        (_, false) => [format!("small-pair {name}"), "inverse (pair k p q)".to_string(), format!("pair-rule {name}")],
-        (_, true) => [format!("named-entry ({lower}"), format!("inverse ({lower}"), format!("{lower}-rule")],
+        (0, _) => [format!("small {name}"), format!("inverse_kind {name}"), format!("kind_rule {name}")],
+        (_, false) => [format!("small_pair {name}"), "inverse (pair k p q)".to_string(), format!("pair_rule {name}")],
+        (_, true) => [format!("named_entry ({lower}"), format!("inverse ({lower}"), format!("{lower}_rule")],
     };
     let starts: Vec<&str> = gate.lines.iter().map(|(_, start)| start.as_str()).collect();
     alike("lines", starts.len(), FILES.len())?;

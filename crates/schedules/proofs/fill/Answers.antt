@@ -6,26 +6,8 @@ use Rattle.schedules.proofs.Filling.{filling_none, next_of, filling_turn, fillin
 use Rattle.schedules.proofs.fill.Goals.{After-next_step-step}
 use Rattle.schedules.proofs.fill.Goals as goal
 
-pub overflow_add-steps : goal.overflow_add-steps
-overflow_add-steps c = omega arith
-
 pub loop-at-init : goal.loop-at-init
 loop-at-init c = filling_none _ _ _
-
-pub overflow_sub-at : goal.overflow_sub-at
-overflow_sub-at c = omega arith
-
-pub next_step-step-requires : goal.next_step-step-requires
-next_step-step-requires c = omega arith
-
-pub overflow_cast-buffer : goal.overflow_cast-buffer
-overflow_cast-buffer c = omega arith
-
-pub bounds-buffer-at : goal.bounds-buffer-at
-bounds-buffer-at c = omega arith
-
-pub overflow_add-i : goal.overflow_add-i
-overflow_add-i c = omega arith
 
 -- the step is 0 or 1
 step_bit : (c : After-next_step-step) → c.next_step-step.result ≤ 1
@@ -38,12 +20,6 @@ overflow_cast-i c = omega (arith, step_bit c)
 
 pub overflow_sub-i : goal.overflow_sub-i
 overflow_sub-i c = omega (arith, step_bit c)
-
-pub overflow_add-at : goal.overflow_add-at
-overflow_add-at c = omega arith
-
-pub loop-at-smaller : goal.loop-at-smaller
-loop-at-smaller c = omega arith
 
 pub loop-at-preserved : goal.loop-at-preserved
 loop-at-preserved c =

@@ -12,31 +12,13 @@ use Rattle.schedules.proofs.fits.Goals as goal
 pub loop-i-init : goal.loop-i-init
 loop-i-init c = passed_none _
 
-pub bounds-s-i : goal.bounds-s-i
-bounds-s-i c = omega arith
-
 pub returns-then-step-gt1 : goal.returns-then-step-gt1
 returns-then-step-gt1 c =
     passed_stop _ c.loop-i.ones c.loop-i.i c.loop-i.invariant c.loop-i-test.true _ _ c.if-step-gt1.true
 
-pub overflow_cast-ones : goal.overflow_cast-ones
-overflow_cast-ones c = omega arith
-
-pub overflow_add-ones : goal.overflow_add-ones
-overflow_add-ones c = omega arith
-
-pub overflow_add-i : goal.overflow_add-i
-overflow_add-i c = omega arith
-
-pub loop-i-smaller : goal.loop-i-smaller
-loop-i-smaller c = omega arith
-
 pub loop-i-preserved : goal.loop-i-preserved
 loop-i-preserved c =
     passed_turn _ c.loop-i.ones c.loop-i.i c.loop-i.invariant c.loop-i-test.true c.if-step-gt1.false
-
-pub overflow_sub-i : goal.overflow_sub-i
-overflow_sub-i c = omega arith
 
 pub returns-then-i-ones : goal.returns-then-i-ones
 returns-then-i-ones c =

@@ -5,13 +5,13 @@ use Rattle.schedules.proofs.Makers.{made_first_over, made_second_over, made_shor
 use Rattle.schedules.proofs.proportional.Goals as goal
 
 pub returns-then-m-gt-GATE_LIMIT : goal.returns-then-m-gt-GATE_LIMIT
-returns-then-m-gt-GATE_LIMIT c = (made_first_over _ _ _ c.if-m-gt-GATE_LIMIT.true, refl)
+returns-then-m-gt-GATE_LIMIT c = record { answer = made_first_over _ _ _ c.if-m-gt-GATE_LIMIT.true; contents = refl }
 
 pub returns-then-p-gt-GATE_LIMIT : goal.returns-then-p-gt-GATE_LIMIT
-returns-then-p-gt-GATE_LIMIT c = (made_second_over _ _ _ c.if-m-gt-GATE_LIMIT.false c.if-p-gt-GATE_LIMIT.true, refl)
+returns-then-p-gt-GATE_LIMIT c = record { answer = made_second_over _ _ _ c.if-m-gt-GATE_LIMIT.false c.if-p-gt-GATE_LIMIT.true; contents = refl }
 
 pub returns-then-buffer-m : goal.returns-then-buffer-m
-returns-then-buffer-m c = (made_short _ _ _ (omega arith) (omega arith) c.if-buffer-m.true, refl)
+returns-then-buffer-m c = record { answer = made_short _ _ _ (omega arith) (omega arith) c.if-buffer-m.true; contents = refl }
 
 pub returns : goal.returns
-returns c = (made_steps _ _ _ (omega arith) (omega arith) (omega arith), c.fill.ensures)
+returns c = record { answer = made_steps _ _ _ (omega arith) (omega arith) (omega arith); contents = c.fill.ensures }
