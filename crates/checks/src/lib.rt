@@ -47,6 +47,7 @@ fn byte(list: u32, why: circuits::Refusal) -> Checked
 }
 
 // Three node columns of one length up to 65,536, four value columns of one length from 1 to 65,536.
+#[tactic(auto, unfolding(crate::specs::Checks::store_rules))]
 fn fit(l: Lengths) -> bool
     ensures { result ≡ store_rules l }
 {
@@ -74,6 +75,7 @@ fn fit(l: Lengths) -> bool
     l.d == l.a
 }
 
+#[tactic(auto, unfolding(crate::specs::Checks::both_rules))]
 fn fit_both(first: Lengths, second: Lengths) -> bool
     ensures { result ≡ both_rules first second }
 {
@@ -121,6 +123,7 @@ fn check_lists(u: &[u8], v: &[u8], schedule: &[u8]) -> Checked
 }
 
 // The checks in the paper's order: the width, the columns, the lists, their counts, the schedule.
+#[tactic(auto, unfolding(crate::specs::Checks::checks))]
 pub fn check(
     u: &[u8],
     v: &[u8],

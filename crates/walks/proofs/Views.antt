@@ -1,23 +1,27 @@
 -- What the walkers share: reading a call's answer off the source, the two ways to an answer, and their measures. Assumes nothing.
-use mathlib.Core.Path.{◌≡◌}
-use mathlib.Core.Bool.{Bool}
-use mathlib.Core.Logic.{◌⊎◌, inl, inr}
+use mathlib.Core.Path.{◌≡◌, sym, ◌∙◌}
+use mathlib.Core.Bool.{Bool, false}
 use mathlib.Core.List.{List}
-use Prim.Native.Nat.{ℕ, ◌+◌, ◌*◌, ◌%◌, ◌<◌}
+use Prim.Native.Nat.{ℕ, ◌+◌, ◌*◌, ◌%◌, ◌<◌, ◌≤◌}
 use native.Mathlib.Omega.{arith}
 use lib.IntN.{ℤ}
+use lib.ListN.{get_or}
 use Rattle.transitions.specs.declared.State.{State}
 use Rattle.transitions.specs.Plan.{plan_of}
 use Rattle.transitions.specs.Source.{ReadingBoth}
 use Rattle.transitions.specs.State.{top}
-use Rattle.transitions.specs.Next.{next_state}
+use Rattle.transitions.specs.Next.{is_leaf, next_state}
 use Rattle.turns.specs.Work.{source_in, Work}
-use Rattle.turns.specs.Turn.{Asking}
-use Rattle.turns.proofs.Turning.{levels_left, next_falls}
+use Rattle.turns.specs.Turn.{Ready, Asking}
+use Rattle.turns.proofs.Turning.{asking_by, levels_left, next_falls}
 
-pub either : {A B C : Type 0} → A ⊎ B → (A → C) → (B → C) → C
-either (inl a) f g = f a
-either (inr b) f g = g b
+-- a state with a question left, by what a walker's tests and the question's level say
+pub asking_of : (plan : List ℕ) (cols : List (List ℕ)) (vals : List (List ℤ)) {w : Work} {at : ℕ} (lv : ℕ) {σ : State} {leaf : Bool}
+    → Ready plan cols vals w at σ → get_or w.tally 2 0 ≤ 1 → leaf ≡ is_leaf σ → leaf ≡ false
+    → ReadingBoth cols σ.x σ.y (λ s. lv ≡ top (plan_of plan) s σ) → Asking plan cols vals w at lv σ
+asking_of plan cols vals lv ready small tested no_leaf reading =
+    let asks = reading (source_in plan cols vals) ready.source.nodes ready.valid_state.x_refers ready.valid_state.y_refers in
+    asking_by plan cols vals lv ready asks (sym no_leaf ∙ tested) small
 
 -- the state that a bit leads to, where the columns hold the source
 pub next_is : (plan : List ℕ) (cols : List (List ℕ)) (vals : List (List ℤ)) {w : Work} {at lv : ℕ} {σ : State} (b : Bool) → Asking plan cols vals w at lv σ

@@ -3,7 +3,7 @@
 use native.Mathlib.Omega.{arith}
 use Rattle.places.proofs.Turns.{low_fits, high_fits}
 use Rattle.places.proofs.Turns.{column_some, low_row_asked, high_row_asked, column_first, column_clean, column_second}
-use Rattle.places.proofs.Turns.{row_settled, row_ended, low_used, low_column_asked, high_column_asked, row_first, row_second}
+use Rattle.places.proofs.Turns.{row_settled, row_ended, low_column_asked, high_column_asked, row_first, row_second}
 use Rattle.places.proofs.+ask_column_ask_row.Goals as goal
 
 -- ---- ask_column

@@ -1,6 +1,6 @@
 -- `schedules::fill` meets its contract. The loop's invariant: the steps so far are written, the rest is kept, and neither
 -- list has given more than it has. The measure is what is left of the steps. Assumes nothing.
-use Prim.Native.Nat.{◌-◌, ◌≤◌}
+use Prim.Native.Nat.{◌≤◌}
 use native.Mathlib.Omega.{arith}
 use Rattle.schedules.proofs.Filling.{filling_none, next_of, filling_turn, filling_done}
 use Rattle.schedules.proofs.fill.Goals.{After-next_step-step}

@@ -2,8 +2,6 @@
 -- counted. The measure is what is left of the length. Assumes nothing.
 use mathlib.Core.Path.{sym, ap, ◌∙◌}
 use mathlib.Core.Bool.{Bool, ◌&&◌}
-use Prim.Native.Nat.{◌-◌}
-use native.Mathlib.Omega.{arith}
 use borrow.Author.Tests.{eq-eqb, ne_eqb}
 use lib.Dec.{eqb}
 use Rattle.schedules.proofs.Counts.{passed_none, passed_turn, passed_stop, passed_done}

@@ -1,7 +1,6 @@
 -- `stores::clear_slots` meets its contract. The loop's invariant: the slots passed are cleared and the others are as they were.
 -- The measure is what is left. Assumes nothing.
 use mathlib.Core.Path.{◌≡◌, sym}
-use Prim.Native.Nat.{◌-◌}
 use native.Mathlib.Omega.{arith}
 use lib.ListN.{length}
 use Rattle.stores.proofs.Filling.{zeroed_none, zeroed_more, clearing_length, passes, passed}

@@ -1,7 +1,6 @@
 -- `stores::zero_of` meets its contract. The loop's invariant: none of the entries passed is zero. The measure is what is left.
 -- Assumes nothing.
 use mathlib.Core.Path.{◌≡◌, sym, ◌∙◌, ap}
-use Prim.Native.Nat.{◌-◌}
 use native.Mathlib.Omega.{arith}
 use borrow.Author.Count.{below_none, below_more}
 use Rattle.algebra.specs.declared.Entry.{Entry}

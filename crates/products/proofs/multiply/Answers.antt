@@ -1,0 +1,10 @@
+-- `products::multiply` meets its contract: the walk from the root is ready, and what it leaves is the product's.
+-- Assumes nothing.
+use Rattle.products.proofs.Steps.{starts, steps}
+use Rattle.products.proofs.multiply.Goals as goal
+
+pub row-requires : goal.row-requires
+row-requires c = starts _ _ _ _ c.requires.task _ _ c.requires.fresh c.slot-at.ensures
+
+pub returns : goal.returns
+returns c task = steps _ _ _ _ task _ _ c.requires.fresh c.row.ensures
