@@ -1,4 +1,5 @@
-// The C interface: the judging call, the schedule maker and the writer of a list's inverse, on numbers and slices.
+// What the C interface offers, which the crate capi_c exports: the judging call, the schedule maker and the writer of a list's
+// inverse, on numbers and slices.
 #![tactic(auto)]
 
 ghost use Rattle.std.specs.Prelude.{◌≡◌};
@@ -17,8 +18,7 @@ const SCHEDULE_REFUSED: u32 = 65536;
 const TOO_SHORT: u32 = 1;
 
 // 0, with the report in the two slices; 1 if a slice is too short for it, and then nothing is judged or written.
-#[unsafe(no_mangle)]
-pub extern "C" fn gannetrope_judge(
+pub fn gannetrope_judge(
     u: &[u8],
     v: &[u8],
     schedule: &[u8],
@@ -82,8 +82,7 @@ pub extern "C" fn gannetrope_judge(
 }
 
 // The steps of the proportional schedule of m and p gates, written to the front of the buffer, or 65,536 and the refusal's number.
-#[unsafe(no_mangle)]
-pub extern "C" fn gannetrope_schedule(m: u32, p: u32, buffer: &mut [u8]) -> u32
+pub fn gannetrope_schedule(m: u32, p: u32, buffer: &mut [u8]) -> u32
     ensures answer { result ≡ steps_or_refusal (made m p buffer.old) }
     ensures contents { buffer.new ≡ filled m p (made m p buffer.old) buffer.old }
 {
@@ -95,8 +94,7 @@ pub extern "C" fn gannetrope_schedule(m: u32, p: u32, buffer: &mut [u8]) -> u32
 
 // 0, with the inverse of the list at the front of the buffer and what was answered in `numbers`; 1 if those are too few, and then
 // nothing is written.
-#[unsafe(no_mangle)]
-pub extern "C" fn gannetrope_inverse(list: &[u8], buffer: &mut [u8], numbers: &mut [u64]) -> u32
+pub fn gannetrope_inverse(list: &[u8], buffer: &mut [u8], numbers: &mut [u64]) -> u32
     ensures { answering result buffer.new numbers.new
         ≡ writing (inverted list.now) buffer.old numbers.old }
 {

@@ -11,7 +11,7 @@ use lib.Pow.{pow_mono}
 use Rattle.gates.specs.Gate.{Gate}
 use Rattle.circuits.specs.declared.Limits.{Limits}
 use Rattle.circuits.specs.Refusals.{bad_qubit_count, bad_gate_count, base_limits}
-use Rattle.circuits.specs.Reading.{read, gates, count, Circuit, body, list, decoded}
+use Rattle.circuits.specs.Reading.{read, count, Circuit, body, list, decoded}
 use Rattle.encodings.specs.Encoding.{number_bytes, gates_bytes, list_bytes, Bytes, Decodes}
 use Rattle.circuits.specs.Within.{Within}
 use Rattle.circuits.proofs.Readings.{read_value}

@@ -6,7 +6,6 @@ use Rattle.diagrams.specs.Diagram.{node}
 use Rattle.stores.specs.Columns.{Columns}
 use Rattle.miters.specs.declared.Verdict.{Verdict}
 use Rattle.miters.specs.Report.{verdict}
-use Rattle.miters.specs.Miter.{steps}
 use Rattle.cofactors.specs.Slots.{store_in, given}
 use Rattle.searches.specs.Ready.{Searchable}
 use Rattle.plans.specs.declared.Used.{Used}

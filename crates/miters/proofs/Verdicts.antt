@@ -16,7 +16,7 @@ use Rattle.algebra.specs.Entry.{𝟘}
 use Rattle.algebra.specs.Matrix.{Bits, Matrix, same}
 use Rattle.algebra.proofs.Sums.{same_refl, same_sound}
 use Rattle.gates.specs.Gate.{Gate, AllFit}
-use Rattle.diagrams.specs.Diagram.{levels, place, rows, columns, entries, same_entry}
+use Rattle.diagrams.specs.Diagram.{levels, place, rows, columns, same_entry}
 use Rattle.diagrams.proofs.Tests.{entry_decides}
 use Rattle.diagrams.proofs.Places.{length_place, length_halves, place_halves}
 use Rattle.miters.specs.declared.Difference.{Difference}

@@ -2,7 +2,6 @@
 -- that the paper prints are in proofs/Examples.antt.
 use Rattle.std.specs.Prelude.{cond, List, [], ◌∷◌, ◌++◌, ℕ, zero, suc, ◌+◌, ◌/◌, ◌%◌, ltb, ℤ, pos, negsuc}
 use Prim.Native.Char.{code}
-use Prim.Native.String as String
 use Prim.Native.String.{String}
 use Rattle.algebra.specs.declared.Entry.{Entry}
 use Rattle.miters.specs.declared.Difference.{Difference}

@@ -1,4 +1,4 @@
--- What the walkers share: reading a call's answer off the source, the two ways to an answer, and their measures. Assumes nothing.
+-- What the walkers share: a state with a question left, reading a call's answer off the source, and their measures. Assumes nothing.
 use mathlib.Core.Path.{◌≡◌, sym, ◌∙◌}
 use mathlib.Core.Bool.{Bool, false}
 use mathlib.Core.List.{List}

@@ -22,9 +22,12 @@ fn read(home: &Path, name: &str) -> String {
     fs::read_to_string(home.join(name)).unwrap_or_else(|error| panic!("{name}: {error}"))
 }
 
+/// What stands behind the name of a static library.
+const STATIC: &str = " staticlib:";
+
 /// The lines 'NAME: DEPENDENCIES' of crates.txt.
 fn listed(crates: &str) -> Vec<String> {
-    crates.lines().filter(|line| !line.starts_with('#')).map(String::from).collect()
+    crates.lines().filter(|line| !line.starts_with('#')).map(|line| line.replace(STATIC, ":")).collect()
 }
 
 /// The rows of the map as such lines.

@@ -3,8 +3,6 @@ use Rattle.identities.proofs.Identities.{pairs_published}
 use Rattle.stores.proofs.Stores.{store_written}
 use Rattle.identities.proofs.identity.Goals as goal
 
--- ---- the places behind the calls, and the entry
-
 pub write_pair-requires : goal.write_pair-requires
 write_pair-requires c = c.requires.2.in_a
 
@@ -19,15 +17,6 @@ write_pair-requires-4 c = c.requires.2.in_d
 
 pub write_qubits-requires : goal.write_qubits-requires
 write_qubits-requires c = (c.requires.0, c.requires.1)
-
-pub shape_of-level : goal.shape_of-level
-shape_of-level c = c.write_qubits.auto.1.0
-
-pub shape_of-low : goal.shape_of-low
-shape_of-low c = c.write_qubits.auto.1.1.0
-
-pub shape_of-high : goal.shape_of-high
-shape_of-high c = c.write_qubits.auto.1.1.1.0
 
 pub returns : goal.returns
 returns c =

@@ -1,6 +1,5 @@
 -- `identities::write_qubits` meets its contract. The loop's invariant: the nodes of the last k qubits are written, with x for their root.
 -- The measure is what is left of the qubits. Assumes nothing.
-use Prim.Native.Nat.{◌-◌}
 use native.Mathlib.Omega.{arith}
 use Rattle.identities.proofs.Identities.{writing_starts, writing_goes, writing_ends}
 use Rattle.identities.proofs.write_qubits.Goals as goal

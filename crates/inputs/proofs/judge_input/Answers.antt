@@ -8,7 +8,7 @@ use Rattle.circuits.specs.Reading.{read, number}
 use Rattle.circuits.proofs.Answers.{number_read, number_refused}
 use Rattle.circuits.proofs.Forms.{number_within}
 use Rattle.inputs.proofs.Splits.{input_unread, input_short, input_long}
-use Rattle.inputs.proofs.judge_input.Goals.{In-Number, In-Number-2}
+use Rattle.inputs.proofs.judge_input.Goals.{In-Number}
 use Rattle.inputs.proofs.judge_input.Goals as goal
 
 -- the length was read, and ends within the bytes
@@ -38,4 +38,4 @@ returns-in-Refused c =
 
 pub returns-else-rest-end : goal.returns-else-rest-end
 returns-else-rest-end c =
-    c.judge_lists.ensures ∙ sym (input_long _ (was_read ((goal.at.returns-else-rest-end c).In-Number-2)) c.if1.false)
+    c.judge_lists.ensures ∙ sym (input_long _ (was_read ((goal.at.returns-else-rest-end c).In-Number)) c.if-rest-end.false)

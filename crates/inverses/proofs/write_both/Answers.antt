@@ -8,13 +8,14 @@ use Rattle.inverses.proofs.write_both.Goals as goal
 pub write_number-next-requires : goal.write_number-next-requires
 write_number-next-requires c =
     let a = c.args in
-    (c.requires.control_bound.0, omega (arith, length-append (number_bytes a.control) (number_bytes a.target)))
+    record { v_bound = c.requires.control_bound.0; v_in_bounds = omega (arith, length-append (number_bytes a.control) (number_bytes a.target)) }
 
 pub write_number-requires : goal.write_number-requires
 write_number-requires c =
     let a = c.args in
     let long = length-append (number_bytes a.control) (number_bytes a.target) in
-    (c.requires.control_bound.1, omega (arith, long, c.write_number-next.ensures, put_length c.write_number-next.ensures))
+    let next = c.write_number-next.ensures in
+    record { v_bound = c.requires.control_bound.1; v_in_bounds = omega (arith, long, next, put_length next) }
 
 pub returns : goal.returns
 returns c =

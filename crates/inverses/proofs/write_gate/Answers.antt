@@ -9,16 +9,18 @@ pub write_number-next-requires : goal.write_number-next-requires
 write_number-next-requires c =
     let a = c.args in
     let decided = c.decide.ensures in
-    let rule_is = c.in-Known.is in (
-      undo_small a.control a.target a.second decided rule_is,
-      omega (arith, undo_long a.control a.target a.second decided rule_is),
-    )
+    let rule_is = c.in-Known.is in
+    record {
+      v_bound = undo_small a.control a.target a.second decided rule_is;
+      v_in_bounds = omega (arith, undo_long a.control a.target a.second decided rule_is);
+    }
 
 pub write_operands-requires : goal.write_operands-requires
 write_operands-requires c =
     let a = c.args in
     let long = undo_long a.control a.target a.second c.decide.ensures c.in-Known.is in
-    (c.requires.control_bound, omega (arith, long, c.write_number-next.ensures, put_length c.write_number-next.ensures))
+    let next = c.write_number-next.ensures in
+    record { control_bound = c.requires.control_bound; second_in_bounds = omega (arith, long, next, put_length next) }
 
 pub returns-in-Unknown : goal.returns-in-Unknown
 returns-in-Unknown c = rw (undo_none _ _ _ c.decide.ensures c.in-Unknown.is) (record { place = omega arith; stored = refl })

@@ -9,20 +9,16 @@ use Rattle.circuits.proofs.Answers.{Found, gate_read, gate_refused}
 use Rattle.circuits.proofs.Within.{gate_fits}
 use Rattle.inverses.proofs.Writing.{said, found_small, found_bytes}
 use Rattle.inverses.proofs.Writing.{writing_none, writing_all, never_refused, After, after, writing_more}
-use Rattle.inverses.proofs.write_gates.Goals.{In-Gate-2}
+use Rattle.inverses.proofs.write_gates.Goals.{In-Gate}
 use Rattle.inverses.proofs.write_gates.Goals as goal
 
 -- the gate that a turn has read
-the_gate : (k : In-Gate-2)
-    → Found (gate k.before.before.before.before.before.before.before.args.qubits
-    k.before.before.before.before.before.before.before.args.list.now k.before.before.before.before.loop.at)
-    k.code.given.0.0 k.code.given.0.1.0 k.code.given.0.1.1.0 k.code.given.0.1.1.1.0 k.code.given.0.1.1.1.1.0
-the_gate k = gate_read (gate _ _ _) k.before.before.gate-at.ensures k.code.given.1
+the_gate : (c : In-Gate) → let it = c.in-Gate in Found (gate c.args.qubits c.args.list.now c.loop-left.at) it.code it.control it.target it.second it.next
+the_gate c = gate_read (gate _ _ _) c.gate_at.ensures c.in-Gate.is
 
 -- and what follows it
-the_rest : (k : In-Gate-2)
-    → After k.before.before.before.before.loop.invariant k.before.before.before.loop-test.true (the_gate k).was_read
-the_rest k = after _ _ _
+the_rest : (c : In-Gate) → After c.loop-left.invariant c.loop-left-test.true (the_gate c).was_read
+the_rest c = after _ _ _
 
 pub loop-left-init : goal.loop-left-init
 loop-left-init c = writing_none (said _ c.requires.listed)
@@ -36,22 +32,25 @@ returns-in-Refused c =
     (gate_refused (gate _ _ _) c.gate_at.ensures c.in-Refused.is))
 
 pub overflow_sub-place : goal.overflow_sub-place
-overflow_sub-place c = omega (arith, (the_rest ((goal.at.overflow_sub-place c).In-Gate-2)).end)
+overflow_sub-place c = omega (arith, (the_rest c).end)
 
 pub overflow_add-place : goal.overflow_add-place
-overflow_add-place c = omega (arith, (the_rest ((goal.at.overflow_add-place c).In-Gate-2)).end, (the_rest ((goal.at.overflow_add-place c).In-Gate-2)).room)
+overflow_add-place c = let rest = the_rest c in omega (arith, rest.end, rest.room)
 
 pub write_gate-requires : goal.write_gate-requires
 write_gate-requires c =
-    let it = the_gate ((goal.at.write_gate-requires c).In-Gate-2) in
-    let rest = the_rest ((goal.at.write_gate-requires c).In-Gate-2) in
+    let it = the_gate ((goal.at.write_gate-requires c).In-Gate) in
+    let rest = the_rest ((goal.at.write_gate-requires c).In-Gate) in
     let head = said _ c.requires.listed in
     let long = c.loop-left.invariant.long in
-    (found_small it _ head.few (gate_fits _ _ _ it.was_read), omega (arith, rest.end, rest.room, ap length (found_bytes it), long))
+    record {
+      control_bound = found_small it _ head.few (gate_fits _ _ _ it.was_read);
+      second_in_bounds = omega (arith, rest.end, rest.room, ap length (found_bytes it), long);
+    }
 
 pub loop-left-preserved : goal.loop-left-preserved
 loop-left-preserved c =
-    let it = the_gate ((goal.at.loop-left-preserved c).In-Gate-2) in
+    let it = the_gate ((goal.at.loop-left-preserved c).In-Gate) in
     writing_more c.loop-left.invariant c.loop-left-test.true it.was_read
     (c.write_gate.ensures.stored ∙ ap (sets _ _) (found_bytes it))
 

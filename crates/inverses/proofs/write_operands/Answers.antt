@@ -11,17 +11,26 @@ use Rattle.inverses.proofs.write_operands.Goals as goal
 pub write_number-requires : goal.write_number-requires
 write_number-requires c =
     let a = c.args in
-    (c.requires.control_bound.1, omega (arith, ap length (data_is a.control a.target a.second c.in-Qubit.is)))
+    record {
+      v_bound = c.requires.control_bound.1;
+      v_in_bounds = omega (arith, ap length (data_is a.control a.target a.second c.in-Qubit.is));
+    }
 
 pub write_both-requires : goal.write_both-requires
 write_both-requires c =
     let a = c.args in
-    ((c.requires.control_bound.0, c.requires.control_bound.1), omega (arith, ap length (data_is a.control a.target a.second c.in-Controlled.is)))
+    record {
+      control_bound = (c.requires.control_bound.0, c.requires.control_bound.1);
+      target_in_bounds = omega (arith, ap length (data_is a.control a.target a.second c.in-Controlled.is));
+    }
 
 pub write_both-next-requires : goal.write_both-next-requires
 write_both-next-requires c =
     let a = c.args in
-    ((c.requires.control_bound.0, c.requires.control_bound.1), omega (arith, data_from a.control a.target a.second c.in-Masked.is))
+    record {
+      control_bound = (c.requires.control_bound.0, c.requires.control_bound.1);
+      target_in_bounds = omega (arith, data_from a.control a.target a.second c.in-Masked.is);
+    }
 
 pub write_number-requires-then-targets-eq2 : goal.write_number-requires-then-targets-eq2
 write_number-requires-then-targets-eq2 c =
@@ -29,7 +38,8 @@ write_number-requires-then-targets-eq2 c =
     let long = ap length (data_two a.control a.target a.second c.in-Masked.is c.if-targets-eq2.true) in
     let both = number_bytes a.control ++ number_bytes a.target in
     let joined = length-append both (number_bytes a.second) in
-    (c.requires.control_bound.2, omega (arith, long, joined, c.write_both-next.ensures, put_length c.write_both-next.ensures))
+    let next = c.write_both-next.ensures in
+    record { v_bound = c.requires.control_bound.2; v_in_bounds = omega (arith, long, joined, next, put_length next) }
 
 pub returns-in-Qubit : goal.returns-in-Qubit
 returns-in-Qubit c =

@@ -12,10 +12,10 @@ use Rattle.pairs.proofs.judge_lists.Goals as goal
 
 -- what the buffer holds once the schedule is made
 made : (c : After-proportional) →
-    Scheduled c.args.u.now c.args.v.now (c.count_gates-m.result + c.count_gates-p.result) c.proportional.new.1.1.0
+    Scheduled c.args.u.now c.args.v.now (c.count_gates-m.result + c.count_gates-p.result) c.proportional.new.buffer
 made c =
     scheduled _ _ _ (omega (arith, length-replicate {A = ℕ} 8192 0)) c.count_gates-m.ensures c.count_gates-p.ensures
-    c.proportional.ensures.0 c.proportional.ensures.1
+    c.proportional.ensures.answer c.proportional.ensures.contents
 
 pub overflow_add-steps : goal.overflow_add-steps
 overflow_add-steps c = omega (arith, (made ((goal.at.overflow_add-steps c).After-proportional)).few)

@@ -1,5 +1,4 @@
 -- `reports::put_counts` meets its contract: the four counts in turn. Assumes nothing.
-use native.Mathlib.Omega.{arith}
 use Rattle.reports.specs.Line.{counts}
 use Rattle.reports.proofs.Puts.{put_then}
 use Rattle.reports.proofs.put_counts.Goals as goal

@@ -1,5 +1,4 @@
 -- `reports::put_difference` meets its contract: row, column, entry and corner in turn. Assumes nothing.
-use native.Mathlib.Omega.{arith}
 use Rattle.reports.specs.Line.{difference}
 use Rattle.reports.proofs.Puts.{put_then}
 use Rattle.reports.proofs.put_difference.Goals as goal

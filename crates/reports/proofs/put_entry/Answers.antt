@@ -1,5 +1,4 @@
 -- `reports::put_entry` meets its contract: the words, and then the four numbers in turn. Assumes nothing.
-use native.Mathlib.Omega.{arith}
 use Rattle.reports.specs.Line.{numbers}
 use Rattle.reports.proofs.Puts.{put_then}
 use Rattle.reports.proofs.Signs.{numbers_held}

@@ -1,6 +1,5 @@
 -- `reports::put_words` meets its contract. The loop's invariant: the first i bytes are written, and no others.
 -- The measure is what is left of them. Assumes nothing.
-use Prim.Native.Nat.{◌-◌}
 use native.Mathlib.Omega.{arith}
 use Rattle.reports.proofs.Puts.{put_more, put_all}
 use Rattle.reports.proofs.put_words.Goals as goal

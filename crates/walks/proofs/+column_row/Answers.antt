@@ -4,7 +4,7 @@ use Rattle.leaves.proofs.Needs.{leaf_slots}
 use Rattle.turns.specs.Work.{work}
 use Rattle.turns.specs.Turn.{Ready, Walked}
 use Rattle.turns.proofs.Turning.{ready_place, ready_slot, nodes_ready, next_ready, recalled_walked, gone_walked, settled_walked, turned}
-use Rattle.walks.proofs.Views.{asking_of, next_is, row_falls, column_falls}
+use Rattle.walks.proofs.Views.{asking_of, next_is, row_hands, column_hands, row_falls, column_falls}
 use Rattle.walks.proofs.+column_row.Goals.{row-After-slot-a_at, row-Joined-l, row-After-slot-b_at, row-After-finish-arg-6-1}
 use Rattle.walks.proofs.+column_row.Goals.{row-then-l, row-else-l, row-then-h, row-else-h}
 use Rattle.walks.proofs.+column_row.Goals.{column-After-slot-a_at, column-Joined-l, column-After-slot-b_at, column-After-finish-arg-6-1}
@@ -32,6 +32,13 @@ row-returns-then-is_leaf t c =
       value_index = c.settle.auto.index;
       memo = c.settle.auto.memo;
     }) refl refl refl refl c.settle.ensures
+
+-- handed straight to the other walker
+pub row-column-requires : goal.row-column-requires
+row-column-requires t c =
+    let a = asking_of _ _ _ c.asked-lv.result c.requires c.if-tally-gt1.false c.is_leaf.ensures c.if-is_leaf.false c.asked-lv.ensures in
+    let fall = row_hands _ _ _ a (omega arith) in
+    (omega (arith, c.decreases, fall), c.requires)
 
 -- the state after the bit 0
 row_low_ready : (t : ℕ) (c : row-After-slot-a_at t) →
@@ -163,6 +170,13 @@ column-returns-then-is_leaf t c =
       value_index = c.settle.auto.index;
       memo = c.settle.auto.memo;
     }) refl refl refl refl c.settle.ensures
+
+-- handed straight to the other walker
+pub column-row-requires : goal.column-row-requires
+column-row-requires t c =
+    let a = asking_of _ _ _ c.asked-lv.result c.requires c.if-tally-gt1.false c.is_leaf.ensures c.if-is_leaf.false c.asked-lv.ensures in
+    let fall = column_hands _ _ _ a (omega arith) in
+    (omega (arith, c.decreases, fall), c.requires)
 
 -- the state after the bit 0
 column_low_ready : (t : ℕ) (c : column-After-slot-a_at t) →

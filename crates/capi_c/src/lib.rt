@@ -1,0 +1,87 @@
+// The C interface: the calls of the crate capi under the C names, with the clauses that they state there.
+#![tactic(auto)]
+
+ghost use Rattle.std.specs.Prelude.{◌≡◌};
+ghost use Rattle.schedules.specs.Schedule.{made, filled};
+ghost use Rattle.stores.specs.Columns.{columns};
+ghost use Rattle.judges.specs.Answer.{answer};
+ghost use Rattle.inverses.specs.Inverse.{inverted};
+ghost use Rattle.capi.specs.Calls.{returning, judging, steps_or_refusal, answering, writing};
+
+// 0, with the report in the two slices; 1 if a slice is too short for it, and then nothing is judged or written.
+#[unsafe(no_mangle)]
+pub extern "C" fn gannetrope_judge(
+    u: &[u8],
+    v: &[u8],
+    schedule: &[u8],
+    w: u32,
+    level: &mut [u32],
+    low: &mut [u32],
+    high: &mut [u32],
+    a: &mut [i32],
+    b: &mut [i32],
+    c: &mut [i32],
+    d: &mut [i32],
+    other_level: &mut [u32],
+    other_low: &mut [u32],
+    other_high: &mut [u32],
+    other_a: &mut [i32],
+    other_b: &mut [i32],
+    other_c: &mut [i32],
+    other_d: &mut [i32],
+    numbers: &mut [u64],
+    entries: &mut [i32],
+) -> u32
+    ensures { returning result
+        (columns level.new low.new high.new a.new b.new c.new d.new)
+        (columns other_level.new other_low.new other_high.new other_a.new
+        other_b.new other_c.new other_d.new)
+        numbers.new entries.new
+        ≡ judging (answer u.now v.now schedule.now w)
+        (columns level.old low.old high.old a.old b.old c.old d.old)
+        (columns other_level.old other_low.old other_high.old other_a.old
+        other_b.old other_c.old other_d.old)
+        numbers.old entries.old }
+{
+    capi::gannetrope_judge(
+        u,
+        v,
+        schedule,
+        w,
+        level,
+        low,
+        high,
+        a,
+        b,
+        c,
+        d,
+        other_level,
+        other_low,
+        other_high,
+        other_a,
+        other_b,
+        other_c,
+        other_d,
+        numbers,
+        entries,
+    )
+}
+
+// The steps of the proportional schedule of m and p gates, written to the front of the buffer, or 65,536 and the refusal's number.
+#[unsafe(no_mangle)]
+pub extern "C" fn gannetrope_schedule(m: u32, p: u32, buffer: &mut [u8]) -> u32
+    ensures answer { result ≡ steps_or_refusal (made m p buffer.old) }
+    ensures contents { buffer.new ≡ filled m p (made m p buffer.old) buffer.old }
+{
+    capi::gannetrope_schedule(m, p, buffer)
+}
+
+// 0, with the inverse of the list at the front of the buffer and what was answered in `numbers`; 1 if those are too few, and then
+// nothing is written.
+#[unsafe(no_mangle)]
+pub extern "C" fn gannetrope_inverse(list: &[u8], buffer: &mut [u8], numbers: &mut [u64]) -> u32
+    ensures { answering result buffer.new numbers.new
+        ≡ writing (inverted list.now) buffer.old numbers.old }
+{
+    capi::gannetrope_inverse(list, buffer, numbers)
+}
