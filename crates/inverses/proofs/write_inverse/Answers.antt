@@ -48,7 +48,7 @@ returns-in-Refused c =
 pub returns-else-buffer-list : goal.returns-else-buffer-list
 returns-else-buffer-list c =
     let written =
-        written_all _ _ (the_list ((goal.at.returns-else-buffer-list c).In-List))
-        (omega arith) c.write_number-next.ensures c.write_number.ensures c.write_gates.ensures
+    written_all _ _ (the_list ((goal.at.returns-else-buffer-list c).In-List))
+    (omega arith) c.write_number-next.ensures c.write_number.ensures c.write_gates.ensures
     in
     record { answer = written.0; contents = written.1 }

@@ -26,8 +26,8 @@ turn : (c : Joined-rest-eq1) → let at = c.loop-rest in let start = c.args in
     × Writing (levels_from 16 start.side start.named) start.plan.now c.if-rest-eq1.plan (at.rest / 2) (at.level + 2) c.if-rest-eq1.k
 turn c = writing_next _ _ _ _ _ _ c.loop-rest.invariant c.loop-rest-test.true
     (elim c.if-rest-eq1.branch [
-      then-rest-eq1 w ↦ inl (w.if-rest-eq1.true, w.plan-is, w.k-is)
-    | else-rest-eq1 w ↦ inr (w.if-rest-eq1.false, w.plan-is, w.k-is)
+      | then-rest-eq1 w ↦ inl (w.if-rest-eq1.true, w.plan-is, w.k-is)
+      | else-rest-eq1 w ↦ inr (w.if-rest-eq1.false, w.plan-is, w.k-is)
     ])
 
 pub overflow_add-level : goal.overflow_add-level

@@ -16,6 +16,6 @@ returns-then-x-y c = simp (ne_eqb _ _ c.if-k-plan.false, eq-eqb _ _ c.if-e-eq0.t
 pub returns : goal.returns
 returns c = chosen_both _ _ _ _ _ c.if-k-plan.false
     (λ zero. elim c.if-e-eq0.branch [
-      then-e-eq0+else-x-y w ↦ w.if-x-y.false
+      | then-e-eq0+else-x-y w ↦ w.if-x-y.false
       | else-e-eq0 w ↦ absurd (w.if-e-eq0.false zero)
     ])

@@ -20,15 +20,15 @@ returns-then-mode-lt-WAITING c = λ s held x_refers y_refers.
 
 pub next_waiting-requires : goal.next_waiting-requires
 next_waiting-requires c = let few = stage_waiting _ c.if-mode-lt-WAITING.false c.if-mode-lt-SWAPPING.true c.requires.1.staged in (
-      few,
-      record {
-        a_bit = c.requires.0;
-        few = omega arith;
-        readable = c.requires.1.x_readable;
-        phase_zero = c.requires.1.phase_zero;
-        phase_one = c.requires.1.phase_one;
-      },
-    )
+  few,
+  record {
+    a_bit = c.requires.0;
+    few = omega arith;
+    readable = c.requires.1.x_readable;
+    phase_zero = c.requires.1.phase_zero;
+    phase_one = c.requires.1.phase_one;
+  },
+)
 
 pub returns-then-mode-lt-SWAPPING : goal.returns-then-mode-lt-SWAPPING
 unfolding next_state

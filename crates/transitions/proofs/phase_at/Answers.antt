@@ -1,7 +1,5 @@
 -- `transitions::phase_at` meets its contract: each return has the test that led there. Assumes nothing.
 use borrow.Author.Tests.{eq-eqb, ne_eqb}
-use Rattle.transitions.proofs.phase_at.Reads as reads
-use Rattle.transitions.proofs.phase_at.Lts as lts
 use Rattle.transitions.proofs.phase_at.Goals as goal
 
 pub returns-then-bit-eq1 : goal.returns-then-bit-eq1
