@@ -27,8 +27,5 @@ pub loop-j-preserved : goal.loop-j-preserved
 loop-j-preserved c =
     dividing_next c.loop-j.invariant c.requires c.loop-j-test.true (c.over_root-e.ensures ∙ ap over_√2 c.read_value.ensures) c.write_value.ensures
 
-pub shape_of-terminals : goal.shape_of-terminals
-shape_of-terminals c = c.loop-j.invariant.long
-
 pub returns : goal.returns
 returns c = dividing_all c.loop-j.invariant c.loop-j-test.false

@@ -10,9 +10,6 @@ loop-k-init c = lowering_none _ _ _
 pub all_divisible-requires : goal.all_divisible-requires
 all_divisible-requires c = omega (arith, c.loop-k.invariant.long, c.requires)
 
-pub shape_of-terminals-then-not-all_divisible : goal.shape_of-terminals-then-not-all_divisible
-shape_of-terminals-then-not-all_divisible c = c.loop-k.invariant.long
-
 pub returns-then-not-all_divisible : goal.returns-then-not-all_divisible
 returns-then-not-all_divisible c = lowering_stops c.loop-k.invariant c.all_divisible.ensures c.if-not-all_divisible.true
 
@@ -28,9 +25,6 @@ loop-k-smaller c = omega (arith, c.loop-k-test.true)
 pub loop-k-preserved : goal.loop-k-preserved
 loop-k-preserved c =
     lowering_next c.loop-k.invariant c.loop-k-test.true c.all_divisible.ensures c.if-not-all_divisible.false c.divide_all.ensures
-
-pub shape_of-terminals : goal.shape_of-terminals
-shape_of-terminals c = c.loop-k.invariant.long
 
 pub returns : goal.returns
 returns c = lowering_ends c.loop-k.invariant c.loop-k-test.false

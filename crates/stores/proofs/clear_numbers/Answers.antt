@@ -15,26 +15,14 @@ loop-i-init c = record { begun = omega arith; bound = c.requires.0; is = sym (ze
 same_long : (c : At-loop-i) → length c.loop-i.column ≡ length c.args.column.now
 same_long c = clearing_length (pos 0) c.args.column.now c.args.from c.loop-i.invariant c.requires.1
 
-pub offset_bounds-column-i : goal.offset_bounds-column-i
-offset_bounds-column-i c = omega arith
-
 pub slice_set_of-column : goal.slice_set_of-column
 slice_set_of-column c = omega (arith, same_long ((goal.at.slice_set_of-column c).At-loop-i))
-
-pub overflow_add-i : goal.overflow_add-i
-overflow_add-i c = omega arith
-
-pub loop-i-smaller : goal.loop-i-smaller
-loop-i-smaller c = omega arith
 
 pub loop-i-preserved : goal.loop-i-preserved
 loop-i-preserved c =
     let at = c.args in
     let inv = c.loop-i.invariant in
     passes inv (pos 0) (zeroed_more (pos 0) at.column.now at.from c.loop-i.i inv.begun (omega arith)) c.loop-i-test.true
-
-pub shape_of-column : goal.shape_of-column
-shape_of-column c = same_long ((goal.at.shape_of-column c).At-loop-i)
 
 pub returns : goal.returns
 returns c = passed c.loop-i.invariant c.loop-i-test.false

@@ -9,6 +9,7 @@ use lib.ListN.{length, get_or, set}
 use mir.Facts.{to_z-of_z}
 use mir.Syntax.{w32}
 use mir.Val.{to_z, of_z}
+use borrow.Author.Rules.{rules}
 use Rattle.stores.proofs.Filling.{filled, filled_none, filled_more, filling_length, filled_over, passes, passed}
 use Rattle.stores.proofs.copy_numbers.Goals.{At-loop-j}
 use Rattle.stores.proofs.copy_numbers.Goals as goal
@@ -24,40 +25,16 @@ loop-j-init c = record { begun = omega arith; bound = omega arith; is = filled_n
 same_long : (c : At-loop-j) → length c.loop-j.column ≡ length c.args.column.now
 same_long c = filling_length (number c.args.vals.now c.args.part) c.args.column.now c.loop-j.invariant c.requires.2
 
-pub overflow_mul-x : goal.overflow_mul-x
-overflow_mul-x c = omega arith
-
-pub overflow_add-x : goal.overflow_add-x
-overflow_add-x c = omega arith
-
-pub offset_bounds-vals-j : goal.offset_bounds-vals-j
-offset_bounds-vals-j c = omega arith
-
-pub bounds-vals-j : goal.bounds-vals-j
-bounds-vals-j c = omega arith
-
-pub offset_bounds-column-j : goal.offset_bounds-column-j
-offset_bounds-column-j c = omega arith
-
 pub bounds-column-j : goal.bounds-column-j
 bounds-column-j c = omega (arith, same_long ((goal.at.bounds-column-j c).At-loop-j))
-
-pub overflow_add-j : goal.overflow_add-j
-overflow_add-j c = omega arith
-
-pub loop-j-smaller : goal.loop-j-smaller
-loop-j-smaller c = omega arith
 
 pub loop-j-preserved : goal.loop-j-preserved
 loop-j-preserved c =
     let j = c.loop-j.j in
     passes c.loop-j.invariant (to_z w32 (of_z w32 (number c.args.vals.now c.args.part j)))
-    (ap (set (filled (number c.args.vals.now c.args.part) c.args.column.now j) j) (to_z-of_z {w = w32} (record { sfits = c.x-1.given }))
+    (ap (set (filled (number c.args.vals.now c.args.part) c.args.column.now j) j) (to_z-of_z {w = w32} (search rules))
     ∙ filled_more (number c.args.vals.now c.args.part) c.args.column.now j (omega arith))
     c.loop-j-test.true
-
-pub shape_of-column : goal.shape_of-column
-shape_of-column c = same_long ((goal.at.shape_of-column c).At-loop-j)
 
 pub returns : goal.returns
 returns c =

@@ -14,34 +14,16 @@ use Rattle.stores.proofs.zero_of.Goals as goal
 pub loop-j-init : goal.loop-j-init
 loop-j-init c = (omega arith, below_none _)
 
-pub overflow_cast-j : goal.overflow_cast-j
-overflow_cast-j c = omega arith
-
-pub value_at-requires : goal.value_at-requires
-value_at-requires c = omega arith
-
-pub same_entry-requires : goal.same_entry-requires
-same_entry-requires c = tt
-
 -- what the test says of the entry
 tested : (c : After-same_entry) → let at = c.args in
     c.same_entry.result ≡ same_entry (entry_of at.a.now at.b.now at.c.now at.d.now c.loop-j.j) 𝟘
 unfolding 𝟘
 tested c = c.same_entry.ensures ∙ ap (λ (x : Entry). same_entry x 𝟘) c.value_at.ensures
 
-pub overflow_mul-result : goal.overflow_mul-result
-overflow_mul-result c = omega arith
-
 pub returns-then-same_entry : goal.returns-then-same_entry
 returns-then-same_entry c =
     zero_met c.args.used _ c.loop-j.j c.loop-j-test.true
     (sym (tested ((goal.at.returns-then-same_entry c).After-same_entry)) ∙ c.if-same_entry.true) c.loop-j.invariant.1
-
-pub overflow_add-j : goal.overflow_add-j
-overflow_add-j c = omega arith
-
-pub loop-j-smaller : goal.loop-j-smaller
-loop-j-smaller c = omega arith
 
 pub loop-j-preserved : goal.loop-j-preserved
 loop-j-preserved c = (omega arith, below_more _ c.loop-j.j c.loop-j.invariant.1 (sym (tested ((goal.at.loop-j-preserved c).After-same_entry)) ∙ c.if-same_entry.false))

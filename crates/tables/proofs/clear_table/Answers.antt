@@ -16,25 +16,13 @@ length_kept c = ap length c.loop-i.invariant.1 ∙ length_cleared c.loop-i.i c.a
 pub loop-i-init : goal.loop-i-init
 loop-i-init c = (omega arith, refl)
 
-pub offset_bounds-memo-i : goal.offset_bounds-memo-i
-offset_bounds-memo-i c = omega arith
-
 pub bounds-memo-i : goal.bounds-memo-i
 bounds-memo-i c = omega (arith, length_kept ((goal.at.bounds-memo-i c).At-loop-i))
-
-pub overflow_add-i : goal.overflow_add-i
-overflow_add-i c = omega arith
-
-pub loop-i-smaller : goal.loop-i-smaller
-loop-i-smaller c = omega arith
 
 pub loop-i-preserved : goal.loop-i-preserved
 loop-i-preserved c =
     let at = c.loop-i in
     (omega arith, rw at.invariant.1 (fill_more at.i 0 c.args.memo.now (omega arith)))
-
-pub shape_of-memo : goal.shape_of-memo
-shape_of-memo c = length_kept ((goal.at.shape_of-memo c).At-loop-i)
 
 pub returns : goal.returns
 returns c =

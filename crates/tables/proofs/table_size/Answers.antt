@@ -8,25 +8,13 @@ use Rattle.tables.proofs.Sizes.{reaches_start, reaches_on, reaches_end}
 use Rattle.tables.proofs.table_size.Goals.{After-loop-size}
 use Rattle.tables.proofs.table_size.Goals as goal
 
-pub overflow_mul-wanted : goal.overflow_mul-wanted
-overflow_mul-wanted c = omega arith
-
 pub loop-size-init : goal.loop-size-init
 loop-size-init c = (c.requires, refl, reaches_start (2 * c.args.nodes) c.args.least)
-
-pub overflow_mul-size : goal.overflow_mul-size
-overflow_mul-size c = omega arith
-
-pub loop-size-smaller : goal.loop-size-smaller
-loop-size-smaller c = omega arith
 
 pub loop-size-preserved : goal.loop-size-preserved
 loop-size-preserved c =
     let inv = c.loop-size.invariant in
     (omega arith, inv.1, reaches_on inv.0 c.loop-size-test.true inv.2)
-
-pub overflow_cast-result : goal.overflow_cast-result
-overflow_cast-result c = omega arith
 
 -- where the loop ends
 size_is : (c : After-loop-size) →

@@ -24,9 +24,6 @@ pub loop-p-init : goal.loop-p-init
 loop-p-init c =
     search_starts c.requires.nodes_held.indexed _ c.args.first (node_hash_below c.args.heads _ c.requires.nodes_held.indexed.some_head) c.requires.first_value
 
-pub overflow_sub-i : goal.overflow_sub-i
-overflow_sub-i c = omega arith
-
 pub overflow_cast-i : goal.overflow_cast-i
 overflow_cast-i c = record { fits = omega (arith, (within c).small) }
 

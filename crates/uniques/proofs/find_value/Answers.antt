@@ -27,17 +27,11 @@ pub loop-p-init : goal.loop-p-init
 loop-p-init c =
     search_starts c.requires.values_held.indexed _ c.args.first (value_hash_below c.args.heads _ c.requires.values_held.indexed.some_head) c.requires.first_value
 
-pub overflow_sub-j : goal.overflow_sub-j
-overflow_sub-j c = omega arith
-
 pub overflow_cast-j : goal.overflow_cast-j
 overflow_cast-j c = record { fits = omega (arith, (within c).small) }
 
 pub read_value-requires : goal.read_value-requires
 read_value-requires c = (within c).in_vals
-
-pub same_entry-requires : goal.same_entry-requires
-same_entry-requires c = tt
 
 -- what the test says of the terminal
 tested : (e : Entry) {x y : Entry} {t : Bool} → t ≡ same_entry x e → x ≡ y → t ≡ same_entry y e

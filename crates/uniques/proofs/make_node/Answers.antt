@@ -118,18 +118,6 @@ overflow_mul-result-2 c = omega (arith, (free c).small)
 pub overflow_add-result-2 : goal.overflow_add-result-2
 overflow_add-result-2 c = omega (arith, (free c).small)
 
-pub shape_of-level : goal.shape_of-level
-shape_of-level c = simp length-set
-
-pub shape_of-low : goal.shape_of-low
-shape_of-low c = simp length-set
-
-pub shape_of-high : goal.shape_of-high
-shape_of-high c = simp length-set
-
-pub shape_of-index : goal.shape_of-index
-shape_of-index c = simp length-set
-
 pub returns : goal.returns
 returns c =
     let at = c.args in

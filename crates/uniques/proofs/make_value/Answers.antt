@@ -90,9 +90,6 @@ bounds-index-head-2 c = simp length-set (head_in ((goal.at.bounds-index-head-2 c
 pub overflow_mul-result-2 : goal.overflow_mul-result-2
 overflow_mul-result-2 c = omega (arith, (free ((goal.at.overflow_mul-result-2 c).Else-j-room)).small)
 
-pub shape_of-index : goal.shape_of-index
-shape_of-index c = simp length-set
-
 pub returns : goal.returns
 returns c =
     let at = c.args in
