@@ -73,7 +73,7 @@ pub lays_out : (twofold : Bool) (zero levels : ℕ) (sizes : Sizes) (used : Used
     ∷ (26, s) ∷ (25, k) ∷ (24, h) ∷ (23, zero) ∷ []) l
     ≡ laid_out twofold zero levels sizes used l
 unfolding laid_out
-lays_out twofold zero levels sizes used l of_h of_k of_p of_s of_m = rw (of_h, of_k, of_s, of_p, of_m) refl
+lays_out twofold zero_ref levels sizes used l of_h of_k of_p of_s of_m = rw (of_h, of_k, of_s, of_p, of_m) refl
 
 -- a gate's plan keeps them
 slots_kept : {l l' : List ℕ} {twofold : Bool} {zero levels : ℕ} {sizes : Sizes} {used : Used} → Keeps l l'

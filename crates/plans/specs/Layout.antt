@@ -36,16 +36,16 @@ paired pairs nodes = cond pairs (4 * nodes) nodes
 -- the slots past the gate's: the source's zero, the heads of the unique tables and the slots of the computed table, the width, the
 -- levels, the numbers that a reference lies below, and the source's counts
 unfoldable pub laid_out : Bool → ℕ → ℕ → Sizes → Used → List ℕ → List ℕ
-laid_out pairs zero levels sizes used l =
-    let l₁ = set (set l 23 zero) 24 (table_size used.nodes 64 sizes.heads) in
+laid_out pairs zero_ref levels sizes used l =
+    let l₁ = set (set l 23 zero_ref) 24 (table_size used.nodes 64 sizes.heads) in
     let l₂ = set (set l₁ 25 (table_size used.values 16 sizes.heads)) 26 (table_size (paired pairs used.nodes) 64 sizes.slots) in
     let l₃ = set (set (set l₂ 27 sizes.width) 28 levels) 29 (2 * max used.nodes used.values) in
     set (set l₃ 30 used.nodes) 31 used.values
 
 unfoldable pub planned : Action → ℕ → Sizes → Used → ℕ → List ℕ → List ℕ
-planned action n sizes used zero l =
+planned action n sizes used zero_ref l =
     prepared action.rule action.side action.named action.low action.high
-    (laid_out (pairs action.rule) zero (2 * n) sizes used l)
+    (laid_out (pairs action.rule) zero_ref (2 * n) sizes used l)
 
 -- what planning asks, so that its numbers fit
 pub record Planning (action : Action) (n : ℕ) (used : Used) : Type 0 where
