@@ -1,5 +1,5 @@
 // The reader of a list. Each function over it takes it apart and leaves the work to the decoder of `circuits`, on the slice and the
-// offset. Such a function is proved by hand, so whoever reads a list calls `number_at` and `gate_at`, whose parameters are plain.
+// offset. Whoever reads a list calls `number_at` and `gate_at`, whose parameters are plain.
 #![tactic(auto)]
 
 ghost use Rattle.std.specs.Prelude.{◌≡◌};
