@@ -114,7 +114,8 @@ fn judge_in(
     endings::report(level, low, high, a, b, c, d, n, ended)
 }
 
-// Stores of up to 4,096 nodes and values: scratch of 786,432 bytes.
+// Stores of up to 4,096 nodes and values: scratch of 786,432 bytes, in a frame of its own.
+#[inline(never)]
 fn judge_small(
     u: &[u8],
     v: &[u8],
@@ -188,7 +189,8 @@ fn judge_small(
     )
 }
 
-// Stores of any lengths that the rules allow: scratch of 4,718,592 bytes.
+// Stores of any lengths that the rules allow: scratch of 4,718,592 bytes, in a frame of its own.
+#[inline(never)]
 fn judge_large(
     u: &[u8],
     v: &[u8],
@@ -262,8 +264,8 @@ fn judge_large(
     )
 }
 
-// The run in scratch of the smallest size that has room, tried from `size` on. The compiler gives a function that calls itself no
-// large arrays of its callees: so each size keeps a frame of its own, and the call itself needs neither.
+// The run in scratch of the smallest size that has room, tried from `size` on. Each size keeps a frame of its own, and the call itself
+// needs neither.
 fn judge_sized(
     size: u32,
     u: &[u8],
