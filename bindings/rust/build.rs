@@ -8,7 +8,10 @@ fn main() {
     let directory = library_directory();
     let archive = directory.join(ARCHIVE);
     if !archive.is_file() {
-        println!("cargo::error={} is missing: run `scripts/build library`, or set GANNETROPE_LIB_DIR", archive.display());
+        println!(
+            "cargo::error={} is missing: run `scripts/build library`, or set GANNETROPE_LIB_DIR",
+            archive.display()
+        );
         return;
     }
     println!("cargo::rerun-if-env-changed=GANNETROPE_LIB_DIR");
