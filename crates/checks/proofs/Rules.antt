@@ -1,7 +1,7 @@
 -- What the store rules say of columns.
 -- Assumes nothing.
 use mathlib.Core.Path.{◌≡◌, refl, sym, ◌∙◌}
-use mathlib.Core.Bool.{true}
+use mathlib.Core.Bool.{Bool, true, false}
 use Prim.Native.Nat.{ℕ, ◌≤◌}
 use lib.ListN.{length}
 use borrow.Author.Tests.{leb-true, eqb-true}
@@ -41,6 +41,14 @@ rules_hold l e =
       c = eqb-true _ _ c;
       d = eqb-true _ _ d;
     }
+
+-- a rule that is broken fails the test
+pub broken : (l : Lengths) → (Ruled l → ⊥) → false ≡ store_rules l
+broken l unruled = by_test (store_rules l) refl
+  where
+    by_test : (b : Bool) → store_rules l ≡ b → false ≡ b
+    by_test true e = absurd (unruled (rules_hold l e))
+    by_test false e = refl
 
 pub record BothRuled (first second : Lengths) : Type 0 where
   pub of_first : Ruled first

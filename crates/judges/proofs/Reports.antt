@@ -189,9 +189,19 @@ module _ {u v schedule : List ℕ} {n : ℕ} {offsets : Offsets} {sizes : Sizes}
   second_still : Long task.N task.L D
   second_still = still_long task.second_long over.second_same
 
+  pub second_slots : Slots 0 0 D
+  second_slots = no_slots second_still
+
   module _ (used : Used) (used_is : used ≡ kept r) where
     pub first_slots : Slots used.nodes used.values C
     first_slots = ran_slots its_end used used_is first_still
+
+    pub few_kept : (used.nodes ≤ 65536) × (used.values ≤ 65536)
+    few_kept =
+        let (nodes, values) = first_slots in (
+          omega (arith, nodes.in_level, first_still.of_level, task.scratch.few_nodes),
+          omega (arith, values.in_a, first_still.of_a, task.scratch.few_values),
+        )
 
     module _ (C' : Columns) (wiped_is : C' ≡ wiped used.nodes used.values C) where
       pub over_readable : SameLengths C C' → Readable n C' r

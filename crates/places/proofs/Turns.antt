@@ -205,6 +205,9 @@ module _ {level low high : List ℕ} {task : Task} {left r row column : ℕ} (at
         ending true = refl
         ending false = refl
 
+  pub level_fits : Fits w32 (task.levels - left + 1)
+  level_fits = record { fits = omega (arith, 𝓢.few_levels) }
+
   module _ (some : left ≡ 0 → ⊥) where
     half_left : (p : ℕ) × (left - 1 ≡ suc (levels p))
     half_left = one_fewer left at.qubits_left at.whole some
@@ -263,6 +266,9 @@ module _ {level low high : List ℕ} {task : Task} {left r row column : ℕ} (at
 
     -- with the children as the code has them
     module _ {x y : ℕ} (x_is : x ≡ child level low high task left false r) (y_is : y ≡ child level low high task left true r) where
+      pub low_used : Used task.nodes x
+      low_used = subst (Used task.nodes) (sym x_is) (child_used false)
+
       pub low_column_asked : ColumnReady level low high task (left - 1) x full (2 * row) column
       low_column_asked = subst (λ (k : ℕ). ColumnReady level low high task (left - 1) k full (2 * row) column) (sym x_is)
           (column_asked false full (λ e. absurd (full_unused task.nodes _ 𝓢.few_nodes
