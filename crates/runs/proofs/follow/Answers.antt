@@ -59,35 +59,10 @@ loop-i-preserved c =
       of_memo = c.advance.auto.memo;
     })
 
+-- the next turn's invariant knows that the exponent is small
 pub overflow_add-exponent : goal.overflow_add-exponent
 overflow_add-exponent c =
-    let on = turning_on _ _ _ _ _ _ _ _ _ c.loop-i.invariant c.loop-i-test.true _ c.choose-next.ensures _ _ c.advance.ensures
-    _ c.if-tally-ne0.false c.halves-exponent.ensures
-    (record {
-      of_level = c.advance.auto.level;
-      of_low = c.advance.auto.low;
-      of_high = c.advance.auto.high;
-      of_a = c.advance.auto.a;
-      of_b = c.advance.auto.b;
-      of_c = c.advance.auto.c;
-      of_d = c.advance.auto.d;
-    })
-    (record {
-      of_level = c.advance.auto.other_level;
-      of_low = c.advance.auto.other_low;
-      of_high = c.advance.auto.other_high;
-      of_a = c.advance.auto.other_a;
-      of_b = c.advance.auto.other_b;
-      of_c = c.advance.auto.other_c;
-      of_d = c.advance.auto.other_d;
-    })
-    (record {
-      of_terminals = c.advance.auto.terminals;
-      of_nodes = c.advance.auto.node_index;
-      of_values = c.advance.auto.value_index;
-      of_memo = c.advance.auto.memo;
-    }) in
-    omega (arith, (on.runs c.requires).few, c.loop-i-test.true, few_steps _ _ _ _ _ _ _ _ _ c.requires)
+    omega (arith, ((loop-i-preserved c).runs c.requires).few, c.loop-i-test.true, few_steps _ _ _ _ _ _ _ _ _ c.requires)
 
 -- ---- after the loop
 
