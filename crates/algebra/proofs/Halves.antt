@@ -1,7 +1,7 @@
 -- What the machine's quotient and remainder by 2 are.
 -- Assumes nothing.
 use mathlib.Core.Path.{◌≡◌, refl, ◌∙◌, ap}
-use Prim.Native.Nat.{ℕ, zero, suc, ◌+◌, ◌/◌, ◌%◌, ◌^◌, ◌<◌, ◌≤◌}
+use Prim.Native.Nat.{ℕ, zero, suc, ◌/◌, ◌%◌, ◌^◌, ◌<◌, ◌≤◌}
 use native.Mathlib.Omega.{arith}
 use lib.Dec.{eqb}
 use lib.IntN.{ℤ, pos, negsuc, neg_ℤ}
@@ -10,7 +10,6 @@ use mir.Syntax.{w32, w64}
 use mir.Facts.{to_z-of_z}
 use mir.Val.{SFits, to_z, of_z}
 use Rattle.algebra.specs.Division.{even, half}
-use Rattle.algebra.proofs.Widths.{result_is}
 
 negated_mag : (k bound : ℕ) → k ≤ suc bound → mag (neg_ℤ (pos k)) ≤ bound
 negated_mag zero bound h = omega arith
@@ -52,16 +51,3 @@ half_is f h = to_z-of_z (half_fits f h) ∙ to_z-of_z (quot_fits f) ∙ ap (λ (
 
 pub even_is : {z : ℤ} → SFits w64 z → eqb (of_z w64 (rem_z (held z) (pos 2))) 0 ≡ even z
 even_is {z} f = ap (λ (x : ℤ). eqb (of_z w64 (rem_z x (pos 2))) 0) (to_z-of_z f) ∙ even_bits z
-
--- a result as a local holds it
-pub result : {r e : ℤ} → mag r < 2 ^ 31 → r ≡ e → to_z w32 (of_z w32 r) ≡ e
-result h is = to_z-of_z {w = w32} (record { sfits = h }) ∙ is
-
--- half of an operation on two operands as the caller's locals hold them
-module _ (op : ℤ → ℤ → ℤ) (x y : ℤ) {r : ℤ} (fx : mag x < 2 ^ 31) (fy : mag y < 2 ^ 31) (fr : mag r < 2 ^ 63)
-    (is : r ≡ op (to_z w32 (of_z w32 x)) (to_z w32 (of_z w32 y))) where
-  pub half_asked : mag (op x y) < 2 ^ 31 + 2 ^ 31 → mag (held r) < 2 ^ 32
-  half_asked bound = rw (result_is op x y fx fy fr is) (omega (arith, bound))
-
-  pub half_told : {h : ℤ} → mag h < 2 ^ 31 → h ≡ half (held r) → to_z w32 (of_z w32 h) ≡ half (op x y)
-  half_told ok told = result ok (told ∙ ap half (result_is op x y fx fy fr is))

@@ -1,4 +1,3 @@
-pub mod Arms
 pub mod Entries
 pub mod Extensions
 pub mod Integers

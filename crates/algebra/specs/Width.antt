@@ -1,9 +1,7 @@
 -- The width rule. Definitions only; its laws are in proofs/Widths.antt.
-use Rattle.std.specs.Prelude.{Bool, cond, ◌&&◌, ℕ, ◌^◌, ◌-◌, leb, ℤ, pos, neg_ℤ}
+use Rattle.std.specs.Prelude.{Bool, cond, ◌&&◌, Option, Some, None, ℕ, ◌^◌, ◌-◌, leb, ℤ, pos, neg_ℤ}
 use Rattle.std.specs.Int.Signed.{le_z, lt_z}
 use Rattle.algebra.specs.declared.Entry.{Entry}
-use Rattle.algebra.specs.declared.Bounded.{Bounded}
-use Rattle.algebra.specs.declared.Bounded.TheVariants.{Within, Outside}
 
 -- "w not 2 to 32" is refusal 1
 abbrev pub fit_width : ℕ → Bool
@@ -17,5 +15,5 @@ abbrev pub entry_in_width : ℕ → Entry → Bool
 entry_in_width w x = (number_in_width w x.a && number_in_width w x.b) && (number_in_width w x.c && number_in_width w x.d)
 
 -- the entry, if the width is one and holds each of its numbers
-unfoldable pub bounded : ℕ → Entry → Bounded
-bounded w x = cond (fit_width w && entry_in_width w x) (Within x) Outside
+unfoldable pub bounded : ℕ → Entry → Option Entry
+bounded w x = cond (fit_width w && entry_in_width w x) (Some x) None

@@ -1,27 +1,20 @@
 // Entries of four whole numbers over the eighth root of unity, and their arithmetic within a width.
 #![tactic(auto)]
 
-ghost use Rattle.std.specs.Prelude.{◌≡◌, false, ◌&&◌, ◌%◌, ◌^◌, ◌-◌, ◌≤◌, ◌<◌, pos, ◌+ℤ◌, ◌-ℤ◌};
+ghost use Rattle.std.specs.Prelude.{◌≡◌, ◌&&◌, ◌^◌, ◌-◌, ◌≤◌, ◌<◌, pos, ◌+ℤ◌, ◌-ℤ◌};
 ghost use Rattle.std.specs.Int.Signed.{mag};
 ghost use Rattle.algebra.specs.Entry.{entry, ◌⊕◌, ◌⊖◌, turned};
-ghost use Rattle.algebra.specs.Width.{number_in_width, bounded};
+ghost use Rattle.algebra.specs.Width.{number_in_width, entry_in_width, bounded};
 ghost use Rattle.algebra.specs.Wide.{Small, part};
 ghost use Rattle.algebra.specs.Division.{even, half, divisible, over_√2};
 
 // (a, b, c, d) means a·w8³ + b·w8² + c·w8 + d.
-#[derive(Clone, Copy)]
+#[derive(Clone, Copy, PartialEq, Eq, Debug)]
 pub struct Entry {
     pub a: i32,
     pub b: i32,
     pub c: i32,
     pub d: i32,
-}
-
-// A result, if all its numbers lie within the width.
-#[derive(Clone, Copy)]
-pub enum Bounded {
-    Within(Entry),
-    Outside,
 }
 
 // An entry before its numbers are tested.
@@ -36,27 +29,13 @@ struct Wide {
 fn add_wide(x: i32, y: i32) -> i64
     ensures { result ≡ x +ℤ y }
 {
-    (x as i64) + (y as i64)
+    i64::from(x) + i64::from(y)
 }
 
 fn sub_wide(x: i32, y: i32) -> i64
     ensures { result ≡ x -ℤ y }
 {
-    (x as i64) - (y as i64)
-}
-
-fn widen(x: i32) -> i64
-    ensures { result ≡ x }
-{
-    x as i64
-}
-
-// 2^(w − 1).
-fn half_of(w: u32) -> i64
-    requires { (2 ≤ w) × (w ≤ 32) }
-    ensures { result ≡ pos (2 ^ (w - 1)) }
-{
-    1i64 << (w - 1)
+    i64::from(x) - i64::from(y)
 }
 
 // Whether s is a number of the width.
@@ -64,15 +43,8 @@ fn within(s: i64, w: u32) -> bool
     requires { (2 ≤ w) × (w ≤ 32) }
     ensures { result ≡ number_in_width w s }
 {
-    let half = half_of(w);
-    if 0 - half <= s { s < half } else { false }
-}
-
-fn both_within(s: i64, t: i64, w: u32) -> bool
-    requires { (2 ≤ w) × (w ≤ 32) }
-    ensures { result ≡ (number_in_width w s && number_in_width w t) }
-{
-    if within(s, w) { within(t, w) } else { false }
+    let half = 1i64 << (w - 1);
+    (-half..half).contains(&s)
 }
 
 // The entry that a wide one is, where its numbers fit.
@@ -88,26 +60,27 @@ fn narrow(x: Wide) -> Entry
     }
 }
 
+// Whether each number of x is one of the width.
+fn all_within(x: Wide, w: u32) -> bool
+    requires { (2 ≤ w) × (w ≤ 32) }
+    ensures { result ≡ entry_in_width w (entry x.a x.b x.c x.d) }
+{
+    within(x.a, w) && within(x.b, w) && within(x.c, w) && within(x.d, w)
+}
+
 // The entry, if the width is one and holds each of its numbers.
-fn narrowed(x: Wide, w: u32) -> Bounded
+fn narrowed(x: Wide, w: u32) -> Option<Entry>
     ensures { result ≡ bounded w (entry x.a x.b x.c x.d) }
 {
-    if w < 2 {
-        return Bounded::Outside;
+    if (2..=32).contains(&w) && all_within(x, w) {
+        Some(narrow(x))
+    } else {
+        None
     }
-    if 32 < w {
-        return Bounded::Outside;
-    }
-    if both_within(x.a, x.b, w) {
-        if both_within(x.c, x.d, w) {
-            return Bounded::Within(narrow(x));
-        }
-    }
-    Bounded::Outside
 }
 
 // x + y, if it lies within the width w.
-pub fn sum(x: Entry, y: Entry, w: u32) -> Bounded
+pub fn sum(x: Entry, y: Entry, w: u32) -> Option<Entry>
     ensures { result ≡ bounded w (x ⊕ y) }
 {
     narrowed(
@@ -122,7 +95,7 @@ pub fn sum(x: Entry, y: Entry, w: u32) -> Bounded
 }
 
 // x − y, if it lies within the width w.
-pub fn difference(x: Entry, y: Entry, w: u32) -> Bounded
+pub fn difference(x: Entry, y: Entry, w: u32) -> Option<Entry>
     ensures { result ≡ bounded w (x ⊖ y) }
 {
     narrowed(
@@ -140,21 +113,20 @@ pub fn difference(x: Entry, y: Entry, w: u32) -> Bounded
 fn rotated(x: Entry, m: u32) -> i64
     ensures { result ≡ part x m }
 {
-    let k = m % 8;
-    match k {
-        0 => widen(x.a),
-        1 => widen(x.b),
-        2 => widen(x.c),
-        3 => widen(x.d),
-        4 => sub_wide(0, x.a),
-        5 => sub_wide(0, x.b),
-        6 => sub_wide(0, x.c),
-        _ => sub_wide(0, x.d),
+    match m % 8 {
+        0 => i64::from(x.a),
+        1 => i64::from(x.b),
+        2 => i64::from(x.c),
+        3 => i64::from(x.d),
+        4 => -i64::from(x.a),
+        5 => -i64::from(x.b),
+        6 => -i64::from(x.c),
+        _ => -i64::from(x.d),
     }
 }
 
 // x times w8 to the power j, if it lies within the width w.
-pub fn turned(x: Entry, j: u32, w: u32) -> Bounded
+pub fn turned(x: Entry, j: u32, w: u32) -> Option<Entry>
     ensures { result ≡ bounded w (turned j x) }
 {
     let k = j % 8;
@@ -183,12 +155,6 @@ fn halved(z: i64) -> i32
     (z / 2) as i32
 }
 
-fn even_sum(x: i32, y: i32) -> bool
-    ensures { result ≡ even (x +ℤ y) }
-{
-    is_even(add_wide(x, y))
-}
-
 fn half_sum(x: i32, y: i32) -> i32
     ensures { result ≡ half (x +ℤ y) }
 {
@@ -205,10 +171,7 @@ fn half_difference(x: i32, y: i32) -> i32
 pub fn divisible(x: Entry) -> bool
     ensures { result ≡ divisible x }
 {
-    if even_sum(x.a, x.c) {
-        return even_sum(x.b, x.d);
-    }
-    false
+    is_even(add_wide(x.a, x.c)) && is_even(add_wide(x.b, x.d))
 }
 
 // x divided by √2, if it is a multiple.

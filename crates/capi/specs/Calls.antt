@@ -1,7 +1,7 @@
 -- What the calls of the C interface return and leave. Definitions only.
-use Rattle.std.specs.Prelude.{cond, ◌&&◌, List, ℕ, ◌+◌, leb, ℤ, length}
-use Rattle.schedules.specs.declared.Made.{Made}
-use Rattle.schedules.specs.declared.Made.TheVariants.{Steps, Refused}
+use Rattle.std.specs.Prelude.{cond, ◌&&◌, List, ℕ, ◌+◌, leb, ℤ, length, Result, Ok, Err}
+use Rattle.schedules.specs.declared.ScheduleFault.{ScheduleFault}
+use Rattle.schedules.specs.declared.ScheduleFault.TheVariants.{GateCount, ShortBuffer}
 use Rattle.stores.specs.Columns.{Columns, over}
 use Rattle.miters.specs.Run.{Outcome}
 use Rattle.inverses.specs.Inverse.{Filled}
@@ -33,10 +33,15 @@ judging answer first second numbers entries =
 
 -- ---- the schedule maker
 
+-- the number of a refusal: 6 for m or p over 4,096, 15 for a buffer below m + p bytes
+abbrev pub schedule_number : ScheduleFault → ℕ
+schedule_number GateCount = 6
+schedule_number ShortBuffer = 15
+
 -- "returns m + p", or 65,536 and the number of the refusal
-abbrev pub steps_or_refusal : Made → ℕ
-steps_or_refusal (Steps n) = n
-steps_or_refusal (Refused number) = 65536 + number
+abbrev pub steps_or_refusal : Result ℕ ScheduleFault → ℕ
+steps_or_refusal (Ok n) = n
+steps_or_refusal (Err fault) = 65536 + schedule_number fault
 
 -- ---- a writer
 

@@ -9,7 +9,7 @@ ghost use Rattle.judges.specs.Answer.{answer};
 ghost use Rattle.inverses.specs.Inverse.{inverted};
 ghost use Rattle.capi.specs.Calls.{returning, judging, steps_or_refusal, answering, writing};
 
-use schedules::Made;
+use stores::Store;
 
 // What is added to the number of a refusal, so that it is no count of steps.
 const SCHEDULE_REFUSED: u32 = 65536;
@@ -18,6 +18,7 @@ const SCHEDULE_REFUSED: u32 = 65536;
 const TOO_SHORT: u32 = 1;
 
 // 0, with the report in the two slices; 1 if a slice is too short for it, and then nothing is judged or written.
+#[tactic(auto, unfolding(crate::specs::Calls::judging))]
 pub fn gannetrope_judge(
     u: &[u8],
     v: &[u8],
@@ -51,17 +52,10 @@ pub fn gannetrope_judge(
         other_b.old other_c.old other_d.old)
         numbers.old entries.old }
 {
-    if numbers.len() < fields::NUMBERS {
+    if numbers.len() < fields::NUMBERS || entries.len() < fields::ENTRIES {
         return TOO_SHORT;
     }
-    if entries.len() < fields::ENTRIES {
-        return TOO_SHORT;
-    }
-    let report = judges::judge(
-        u,
-        v,
-        schedule,
-        w,
+    let mut first = Store {
         level,
         low,
         high,
@@ -69,14 +63,17 @@ pub fn gannetrope_judge(
         b,
         c,
         d,
-        other_level,
-        other_low,
-        other_high,
-        other_a,
-        other_b,
-        other_c,
-        other_d,
-    );
+    };
+    let mut second = Store {
+        level: other_level,
+        low: other_low,
+        high: other_high,
+        a: other_a,
+        b: other_b,
+        c: other_c,
+        d: other_d,
+    };
+    let report = judges::judge(u, v, schedule, w, &mut first, &mut second);
     fields::write_report(report, numbers, entries);
     0
 }
@@ -87,13 +84,14 @@ pub fn gannetrope_schedule(m: u32, p: u32, buffer: &mut [u8]) -> u32
     ensures contents { buffer.new ≡ filled m p (made m p buffer.old) buffer.old }
 {
     match schedules::proportional(m, p, buffer) {
-        Made::Steps(steps) => steps,
-        Made::Refused(number) => SCHEDULE_REFUSED + number,
+        Ok(steps) => steps,
+        Err(fault) => SCHEDULE_REFUSED + fault as u32,
     }
 }
 
 // 0, with the inverse of the list at the front of the buffer and what was answered in `numbers`; 1 if those are too few, and then
 // nothing is written.
+#[tactic(auto, unfolding(crate::specs::Calls::writing))]
 pub fn gannetrope_inverse(list: &[u8], buffer: &mut [u8], numbers: &mut [u64]) -> u32
     ensures { answering result buffer.new numbers.new
         ≡ writing (inverted list.now) buffer.old numbers.old }

@@ -1,16 +1,16 @@
 -- The checks before a run, in the paper's order: the width, the columns, the lists, their counts, the schedule. Definitions only.
-use Rattle.std.specs.Prelude.{Bool, cond, ◌&&◌, List, ℕ, eqb, leb, length}
+use Rattle.std.specs.Prelude.{Bool, cond, ◌&&◌, List, ℕ, eqb, leb, length, Result, Ok, Err}
 use Rattle.algebra.specs.Width.{fit_width}
 use Rattle.circuits.specs.Refusals.{base_limits}
 use Rattle.circuits.specs.Reading.{Reading, read, refused as unread, Circuit, decoded}
 use Rattle.schedules.specs.Schedule.{fits}
 use Rattle.stores.specs.Columns.{Columns}
+use Rattle.miters.specs.declared.CallFault.TheVariants.{Width, Columns as WrongColumns, QubitCounts, Schedule}
 use Rattle.miters.specs.declared.Refusal.{Refusal}
 use Rattle.miters.specs.declared.Refusal.TheVariants.{Call}
 use Rattle.miters.specs.Report.{at_byte}
 use Rattle.checks.specs.declared.Lengths.{Lengths}
-use Rattle.checks.specs.declared.Checked.{Checked}
-use Rattle.checks.specs.declared.Checked.TheVariants.{Refused, Pair}
+use Rattle.checks.specs.declared.Pair.{Pair}
 
 -- ---- 2: "column lengths break the store rules"
 
@@ -45,7 +45,7 @@ pub data Checks : Type 0 where
 -- 11: "qubit counts differ"; 12: "schedule doesn't fit"
 abbrev pub check_pair : List ℕ → Circuit → Circuit → Checks
 check_pair schedule c d =
-    cond (eqb c.qubits d.qubits) (cond (fits (length c.gates) (length d.gates) schedule) (passes c d) (refuses (Call 12))) (refuses (Call 11))
+    cond (eqb c.qubits d.qubits) (cond (fits (length c.gates) (length d.gates) schedule) (passes c d) (refuses (Call Schedule))) (refuses (Call QubitCounts))
 
 -- "List 1 is read to its end before list 2."
 abbrev pub check_second : List ℕ → Circuit → Reading Circuit → Checks
@@ -62,11 +62,11 @@ check_lists u v schedule = check_first v schedule (decoded base_limits u)
 -- "Places come top to bottom": 1 holds if "w not 2 to 32", 2 if "column lengths break the store rules", then the lists
 unfoldable pub checks : List ℕ → List ℕ → List ℕ → ℕ → Lengths → Lengths → Checks
 checks u v schedule w first second =
-    cond (fit_width w) (cond (both_rules first second) (check_lists u v schedule) (refuses (Call 2))) (refuses (Call 1))
+    cond (fit_width w) (cond (both_rules first second) (check_lists u v schedule) (refuses (Call WrongColumns))) (refuses (Call Width))
 
 -- ---- what the code answers
 
 -- the refusal, or the qubit count and the offsets of the first gates
-abbrev pub checked : Checks → Checked
-checked (refuses why) = Refused why
-checked (passes c d) = Pair c.qubits (record { first = c.first; second = d.first })
+abbrev pub checked : Checks → Result Pair Refusal
+checked (refuses why) = Err why
+checked (passes c d) = Ok (record { n = c.qubits; offsets = record { first = c.first; second = d.first } })

@@ -2,14 +2,20 @@
 #![tactic(auto)]
 
 ghost use Rattle.std.specs.Prelude.{◌≡◌};
-ghost use Rattle.miters.specs.declared.Refusal.TheVariants.{Call};
-ghost use Rattle.checks.specs.declared.Checked.TheVariants.{Refused};
-ghost use Rattle.miters.specs.Report.{at_byte};
-ghost use Rattle.checks.specs.Checks.{store_rules, both_rules, check_lists, checks, checked};
+ghost use Rattle.stores.specs.Columns.{columns_of};
+ghost use Rattle.checks.specs.Checks.{lengths, store_rules, both_rules, check_lists, checks, checked};
 
 use choices::Offsets;
-use lists::ListRead;
-use miters::Refusal;
+use miters::{CallFault, Refusal};
+use stores::Store;
+
+// The least and the greatest width.
+const LEAST_WIDTH: u32 = 2;
+
+const GREATEST_WIDTH: u32 = 32;
+
+// The most nodes and values of a store.
+const STORE_LIMIT: usize = 65536;
 
 // The lengths of a store's columns.
 #[derive(Clone, Copy)]
@@ -23,27 +29,25 @@ pub struct Lengths {
     pub d: usize,
 }
 
-// What the checks before the run find: a refusal, or the qubit count and where the gates of the two lists begin.
+// What the checks find of a pair that passes: the qubit count, and where the gates of the two lists begin.
 #[derive(Clone, Copy)]
-pub enum Checked {
-    Refused(Refusal),
-    Pair { n: u32, offsets: Offsets },
+pub struct Pair {
+    pub n: u32,
+    pub offsets: Offsets,
 }
 
-fn call(number: u32) -> Checked
-    ensures { result ≡ Refused (Call number) }
+pub fn lengths_of(store: &Store<'_>) -> Lengths
+    ensures { result ≡ lengths (columns_of store.now) }
 {
-    Checked::Refused(Refusal::Call { number })
-}
-
-fn byte(list: u32, why: circuits::Refusal) -> Checked
-    ensures { result ≡ Refused (at_byte list why) }
-{
-    Checked::Refused(Refusal::Byte {
-        number: why.number,
-        list,
-        offset: why.offset,
-    })
+    Lengths {
+        level: store.level.len(),
+        low: store.low.len(),
+        high: store.high.len(),
+        a: store.a.len(),
+        b: store.b.len(),
+        c: store.c.len(),
+        d: store.d.len(),
+    }
 }
 
 // Three node columns of one length up to 65,536, four value columns of one length from 1 to 65,536.
@@ -51,75 +55,43 @@ fn byte(list: u32, why: circuits::Refusal) -> Checked
 fn fit(l: Lengths) -> bool
     ensures { result ≡ store_rules l }
 {
-    if 65536 < l.level {
-        return false;
-    }
-    if l.low != l.level {
-        return false;
-    }
-    if l.high != l.level {
-        return false;
-    }
-    if l.a < 1 {
-        return false;
-    }
-    if 65536 < l.a {
-        return false;
-    }
-    if l.b != l.a {
-        return false;
-    }
-    if l.c != l.a {
-        return false;
-    }
-    l.d == l.a
+    l.level <= STORE_LIMIT
+        && l.low == l.level
+        && l.high == l.level
+        && 1 <= l.a
+        && l.a <= STORE_LIMIT
+        && l.b == l.a
+        && l.c == l.a
+        && l.d == l.a
 }
 
 #[tactic(auto, unfolding(crate::specs::Checks::both_rules))]
 fn fit_both(first: Lengths, second: Lengths) -> bool
     ensures { result ≡ both_rules first second }
 {
-    if !fit(first) {
-        return false;
-    }
-    if !fit(second) {
-        return false;
-    }
-    if first.level != second.level {
-        return false;
-    }
-    first.a == second.a
+    fit(first) && fit(second) && first.level == second.level && first.a == second.a
 }
 
-fn check_lists(u: &[u8], v: &[u8], schedule: &[u8]) -> Checked
+#[tactic(auto, unfolding(crate::specs::Checks::check_lists))]
+fn check_lists(u: &[u8], v: &[u8], schedule: &[u8]) -> Result<Pair, Refusal>
     ensures { result ≡ checked (check_lists u.now v.now schedule.now) }
 {
-    match lists::check_list(u, circuits::base_limits()) {
-        ListRead::Refused(why) => byte(1, why),
-        ListRead::List {
-            qubits,
-            gates,
-            first,
-        } => match lists::check_list(v, circuits::base_limits()) {
-            ListRead::Refused(why) => byte(2, why),
-            ListRead::List {
-                qubits: other_qubits,
-                gates: other_gates,
-                first: second,
-            } => {
-                if qubits != other_qubits {
-                    return call(11);
-                }
-                if !schedules::fits(schedule, gates, other_gates) {
-                    return call(12);
-                }
-                Checked::Pair {
-                    n: qubits,
-                    offsets: Offsets { first, second },
-                }
-            }
-        },
+    let limits = circuits::base_limits();
+    let first = lists::check_list(u, limits).map_err(|why| Refusal::Byte { list: 1, why })?;
+    let second = lists::check_list(v, limits).map_err(|why| Refusal::Byte { list: 2, why })?;
+    if first.qubits != second.qubits {
+        return Err(Refusal::Call(CallFault::QubitCounts));
     }
+    if !schedules::fits(schedule, first.gates, second.gates) {
+        return Err(Refusal::Call(CallFault::Schedule));
+    }
+    Ok(Pair {
+        n: first.qubits,
+        offsets: Offsets {
+            first: first.first,
+            second: second.first,
+        },
+    })
 }
 
 // The checks in the paper's order: the width, the columns, the lists, their counts, the schedule.
@@ -131,17 +103,14 @@ pub fn check(
     w: u32,
     first: Lengths,
     second: Lengths,
-) -> Checked
+) -> Result<Pair, Refusal>
     ensures { result ≡ checked (checks u.now v.now schedule.now w first second) }
 {
-    if w < 2 {
-        return call(1);
-    }
-    if 32 < w {
-        return call(1);
+    if w < LEAST_WIDTH || GREATEST_WIDTH < w {
+        return Err(Refusal::Call(CallFault::Width));
     }
     if !fit_both(first, second) {
-        return call(2);
+        return Err(Refusal::Call(CallFault::Columns));
     }
     check_lists(u, v, schedule)
 }

@@ -1,57 +1,29 @@
--- The gate of a step: its data by its code and its side, what stands at an offset, and the list that it is taken from.
+-- The gate of a step: what a reader reads next, for its side, and the list that it is taken from.
 -- Assumes nothing.
 use mathlib.Core.Path.{◌≡◌, refl, sym, ◌∙◌, ap, ap₂, subst}
 use mathlib.Core.Bool.{Bool, true, false}
 use mathlib.Core.List.{List}
 use Prim.Native.Nat.{ℕ, ◌^◌, ◌<◌, ◌≤◌, min, max}
 use native.Mathlib.Omega.{arith}
+use Rattle.std.specs.Prelude.{Ok}
 use Rattle.gates.specs.declared.Rule.{Rule}
-use Rattle.gates.specs.declared.Decision.{Decision}
-use Rattle.gates.specs.declared.Decision.TheVariants.{Known, Unknown}
-use Rattle.gates.specs.Gate.{X, Y, Z, H, S, S†, T, T†, CNOT, CZ, Gate, on, pair, toffoli, fredkin, Fits, inverse, halves}
-use Rattle.gates.specs.Rule.{decision, gate_rule, target, second}
+use Rattle.gates.specs.Gate.{X, Y, Z, H, S, S†, T, T†, CNOT, CZ, Gate, on, pair, toffoli, fredkin, Fits, halves}
+use Rattle.gates.specs.Rule.{gate_rule, target, second}
 use Rattle.gates.proofs.LocalRules.{second_fits}
 use Rattle.gates.proofs.Masks.{names_below}
 use Rattle.gates.proofs.Inverses.{inverse_fits}
-use Rattle.circuits.specs.declared.GateRead.{GateRead}
-use Rattle.circuits.specs.Reading.{gate}
-use Rattle.circuits.specs.Codes.{gate_code}
-use Rattle.circuits.specs.Answers.{control, first_target, last_target, gate_answer}
-use Rattle.circuits.proofs.Codes.{gate_decided, inverse_code}
-use Rattle.circuits.specs.Remaining.{Remaining}
+use Rattle.circuits.specs.declared.Gate.{Gate as GateData}
+use Rattle.circuits.specs.declared.Reader.{Reader}
+use Rattle.circuits.specs.Reading.{Reading, read, refused, gate}
+use Rattle.circuits.specs.Answers.{control, first_target, last_target, gate_data, Says}
 use Rattle.circuits.proofs.Remaining.{remaining_next}
-use Rattle.plans.specs.Prepare.{as_number}
-use Rattle.plans.specs.Prepare.{named_mask}
+use Rattle.plans.specs.declared.Side.{Side}
 use Rattle.plans.specs.declared.Action.{Action}
+use Rattle.plans.specs.Prepare.{as_number, side_of, named_mask}
 use Rattle.plans.proofs.Plans.{mask_names, names_fit}
 use Rattle.plans.specs.Layout.{Acts}
-use Rattle.choices.specs.declared.Offsets.{Offsets}
-use Rattle.choices.specs.declared.Taken.{Taken}
-use Rattle.choices.specs.declared.Next.{Next}
-use Rattle.choices.specs.Choosing.{Ruled, sided, Sided, Acting, Read, Takes, from_U, from_V, Lists, Chosen}
-
--- ---- the data of a code
-
-module _ {d : Decision} (code : ℕ) (decided : d ≡ decision code) where
-  pub ruled_known : (rule : Rule) → d ≡ Known rule → Ruled code rule
-  ruled_known rule known other e = cc
-
-  pub ruled_unknown : (rule : Rule) → d ≡ Unknown → Ruled code rule
-  ruled_unknown rule unknown other e = cc
-
-gate_ruled : (code : ℕ) (rule : Rule) (g : Gate) → Ruled code rule → code ≡ gate_code g → rule ≡ gate_rule g
-gate_ruled code rule g ruled e = ruled (gate_rule g) (ap decision e ∙ gate_decided g)
-
-module _ (side code : ℕ) (rule : Rule) (ruled : Ruled code rule) where
-  pub sided_right : side ≡ 1 → (undone : Rule) → Ruled rule.inverse undone → Sided side code undone
-  sided_right is_right undone inverse_ruled true g s e =
-      gate_ruled rule.inverse undone (inverse g) inverse_ruled
-      (ap (λ (x : Rule). x.inverse) (gate_ruled code rule g ruled e) ∙ inverse_code g)
-  sided_right is_right undone inverse_ruled false g s e = absurd (omega arith)
-
-  pub sided_left : (side ≡ 1 → ⊥) → Sided side code rule
-  sided_left not_right true g s e = absurd (not_right s)
-  sided_left not_right false g s e = gate_ruled code rule g ruled e
+use Rattle.choices.specs.declared.Lists.{Lists as Readers}
+use Rattle.choices.specs.Choosing.{sided, Sided, Acting, Read, Takes, from_U, from_V, Left, Chosen}
 
 -- what a gate adds to the exponent: 1 if it mixes
 pub gate_halves : (g : Gate) → as_number (gate_rule g).mixes ≡ halves g
@@ -107,86 +79,88 @@ ordered (fredkin mask p q) = (refl, refl)
 small_mask : (n : ℕ) (g : Gate) → n ≤ 16 → Fits n g → named_mask g < 2 ^ 16
 small_mask n g few fits = names_below 16 (named_mask g) (λ q e. let below = names_fit n g fits q (sym (mask_names n g fits q) ∙ e) in omega arith)
 
-module _ {answer : GateRead} (bytes : List ℕ) (at n side : ℕ) (answered : answer ≡ gate_answer (gate n bytes at)) where
-  pub gate_taken : {code c t u next : ℕ} (rule : Rule) (action : Action) → answer ≡ GateRead.Gate code c t u next → Sided side code rule
-      → Acting rule side c t u action → Read bytes at n side (record { action = action; next = next })
-  gate_taken {code} {c} {t} {u} {next} rule action is_gate rules acting right g next' s few fits reads =
-      let same : GateRead.Gate code c t u next ≡ GateRead.Gate (gate_code g) (control g) (first_target g) (last_target g) next' =
-      sym is_gate ∙ answered ∙ ap gate_answer reads in
-      let code_is : code ≡ gate_code g = cc in
-      let control_is : c ≡ control g = cc in
-      let target_is : t ≡ first_target g = cc in
-      let second_is : u ≡ last_target g = cc in
-      let next_is : next ≡ next' = cc in
-      let h = sided right g in
-      let same_names = sided_same right g in
-      let rule_is : rule ≡ gate_rule h = rules right g s code_is in
-      let fits' = sided_fits n right g fits in
-      let named : action.named ≡ named_mask h =
-      acting.named_is.1 n h few fits' (ap (λ (r : Rule). r.operands) rule_is) (control_is ∙ same_names.0) (target_is ∙ same_names.1)
-      (second_is ∙ same_names.2) in
-      let high : action.high ≡ second h =
-      acting.high_is ∙ ap₂ max (target_is ∙ same_names.1) (second_is ∙ same_names.2) ∙ (ordered h).1 in (
-        record {
-          fits = fits';
-          rule = acting.rule_is ∙ rule_is;
-          side = acting.side_is ∙ s;
-          named = named;
-          small_named = subst (λ (m : ℕ). m < 65536) (sym named) (small_mask n h few fits');
-          low = acting.low_is ∙ ap₂ min (target_is ∙ same_names.1) (second_is ∙ same_names.2) ∙ (ordered h).0;
-          high = high;
-          small_high = let below = second_fits n h fits' in omega (arith, high, below, few);
-        },
-        next_is,
-      )
+acting_acts : (n : ℕ) (right : Bool) (g : Gate) (side : Side) (rule : Rule) (action : Action) → n ≤ 16 → Fits n g → side ≡ side_of right
+    → rule ≡ gate_rule (sided right g) → Acting rule side (gate_data g) action → Acts n right (sided right g) action
+acting_acts n right g side rule action few fits is_side rule_is acting =
+    let h = sided right g in
+    let same = sided_same right g in
+    let fits' = sided_fits n right g fits in
+    let named : action.named ≡ named_mask h = acting.named_is.1 n h few fits' (ap (λ (r : Rule). r.operands) rule_is) same.0 same.1 same.2 in
+    let high : action.high ≡ second h = acting.high_is ∙ ap₂ max same.1 same.2 ∙ (ordered h).1 in
+    record {
+      fits = fits';
+      rule = acting.rule_is ∙ rule_is;
+      side = acting.side_is ∙ is_side;
+      named = named;
+      small_named = subst (λ (m : ℕ). m < 65536) (sym named) (small_mask n h few fits');
+      low = acting.low_is ∙ ap₂ min same.1 same.2 ∙ (ordered h).0;
+      high = high;
+      small_high = let below = second_fits n h fits' in omega (arith, high, below, few);
+    }
 
-  -- a refusal stands for no gate
-  pub none_taken : {why : _} (taken : Taken) → answer ≡ GateRead.Refused why → Read bytes at n side taken
-  none_taken taken is_refusal right g next' s few fits reads =
-      let clash : ◌≡◌ {A = ℕ} 0 1 = let same = sym is_refusal ∙ answered ∙ ap gate_answer reads in cc in
-      absurd (omega arith)
+module _ (old new : Reader) (n : ℕ) (side : Side) where
+  -- the reader goes on behind the gate, on the same bytes
+  gate_moves : (r : Reading Gate) (what : GateData) → Says gate_data r old new (Ok what) → new.bytes ≡ old.bytes
+  gate_moves (read g next) what says = ap (λ (x : Reader). x.bytes) says.1
+  gate_moves (refused why) what says = cc
+
+  pub gate_taken : {what : GateData} {rule : Rule} {action : Action} → Says gate_data (gate n old.bytes.now old.at) old new (Ok what)
+      → Sided side what.code rule → Acting rule side what action → Read old n side new action
+  gate_taken {what} {rule} {action} says rules acting = record {
+    same_bytes = gate_moves (gate n old.bytes.now old.at) what says;
+    taken = λ right g next is_side few fits reads.
+        let found : Says gate_data (read g next) old new (Ok what) = rw reads at says in
+        let both : Ok what ≡ Ok (gate_data g) = found.0 in
+        let is : what ≡ gate_data g = cc in (
+          acting_acts n right g side rule action few fits is_side (rules right g is_side (ap (λ (w : GateData). w.code) is))
+              (subst (λ (w : GateData). Acting rule side w action) is acting),
+          ap (λ (x : Reader). x.at) found.1,
+        );
+  }
 
 -- ---- the list that a step takes its gate from
 
-module _ (u v : List ℕ) (n : ℕ) (offsets : Offsets) (taken : Taken) where
-  abbrev after_U : Next
-  after_U = record { action = taken.action; offsets = record { first = taken.next; second = offsets.second } }
+module _ (old : Readers) (n step : ℕ) (new : Reader) (action : Action) where
+  pub chosen_U : step ≡ 0 → Read old.first n Side.Left new action → Chosen old (record { first = new; second = old.second }) step n action
+  chosen_U zero_step reads = record {
+    same_first = reads.same_bytes;
+    same_second = refl;
+    next = λ us vs us' vs' right g takes few left. taken takes zero_step few left;
+  }
+    where
+      taken : {step : ℕ} {us vs us' vs' : List Gate} {right : Bool} {g : Gate} → Takes step us vs right g us' vs' → step ≡ 0 → n ≤ 16 → Left n old us vs
+          → Acts n right g action × Left n (record { first = new; second = old.second }) us' vs'
+      taken (from_U {g = g} {us = us}) e few left =
+          let next = remaining_next n old.first.bytes.now old.first.at g us left.gates_u in
+          let r = reads.taken false g next.next refl few left.fit_u.0 next.gate_here in (
+            r.0,
+            record {
+              gates_u = rw (reads.same_bytes, r.1) next.others;
+              gates_v = left.gates_v;
+              fit_u = left.fit_u.1;
+              fit_v = left.fit_v;
+            },
+          )
+      taken from_V e few left = absurd (omega arith)
 
-  abbrev after_V : Next
-  after_V = record { action = taken.action; offsets = record { first = offsets.first; second = taken.next } }
-
-  from_first : {step : ℕ} {us vs us' vs' : List Gate} {right : Bool} {g : Gate} → Takes step us vs right g us' vs' → step ≡ 0
-      → Read u offsets.first n 0 taken → n ≤ 16 → Lists n u v offsets us vs → Acts n right g taken.action × Lists n u v after_U.offsets us' vs'
-  from_first (from_U {g = g} {us = us}) e reads few lists =
-      let next = remaining_next n u offsets.first g us lists.gates_u in
-      let r = reads false g next.next refl few lists.fit_u.0 next.gate_here in (
-        r.0,
-        record {
-          gates_u = subst (λ (at : ℕ). Remaining n u at us) (sym r.1) next.others;
-          gates_v = lists.gates_v;
-          fit_u = lists.fit_u.1;
-          fit_v = lists.fit_v;
-        },
-      )
-  from_first from_V e reads few lists = absurd (omega arith)
-
-  from_second : {step : ℕ} {us vs us' vs' : List Gate} {right : Bool} {g : Gate} → Takes step us vs right g us' vs' → (step ≡ 0 → ⊥)
-      → Read v offsets.second n 1 taken → n ≤ 16 → Lists n u v offsets us vs → Acts n right g taken.action × Lists n u v after_V.offsets us' vs'
-  from_second from_U e reads few lists = absurd (e refl)
-  from_second (from_V {g = g} {vs = vs}) e reads few lists =
-      let next = remaining_next n v offsets.second g vs lists.gates_v in
-      let r = reads true g next.next refl few lists.fit_v.0 next.gate_here in (
-        r.0,
-        record {
-          gates_u = lists.gates_u;
-          gates_v = subst (λ (at : ℕ). Remaining n v at vs) (sym r.1) next.others;
-          fit_u = lists.fit_u;
-          fit_v = lists.fit_v.1;
-        },
-      )
-
-  pub chosen_U : (step : ℕ) → step ≡ 0 → Read u offsets.first n 0 taken → Chosen u v step offsets n after_U
-  chosen_U step e reads us vs us' vs' right g takes few lists = from_first takes e reads few lists
-
-  pub chosen_V : (step : ℕ) → (step ≡ 0 → ⊥) → Read v offsets.second n 1 taken → Chosen u v step offsets n after_V
-  chosen_V step e reads us vs us' vs' right g takes few lists = from_second takes e reads few lists
+  pub chosen_V : (step ≡ 0 → ⊥) → Read old.second n Side.Right new action → Chosen old (record { first = old.first; second = new }) step n action
+  chosen_V some_step reads = record {
+    same_first = refl;
+    same_second = reads.same_bytes;
+    next = λ us vs us' vs' right g takes few left. taken takes some_step few left;
+  }
+    where
+      taken : {step : ℕ} {us vs us' vs' : List Gate} {right : Bool} {g : Gate} → Takes step us vs right g us' vs' → (step ≡ 0 → ⊥) → n ≤ 16 → Left n old us vs
+          → Acts n right g action × Left n (record { first = old.first; second = new }) us' vs'
+      taken from_U e few left = absurd (e refl)
+      taken (from_V {g = g} {vs = vs}) e few left =
+          let next = remaining_next n old.second.bytes.now old.second.at g vs left.gates_v in
+          let r = reads.taken true g next.next refl few left.fit_v.0 next.gate_here in (
+            r.0,
+            record {
+              gates_u = left.gates_u;
+              gates_v = rw (reads.same_bytes, r.1) next.others;
+              fit_u = left.fit_u;
+              fit_v = left.fit_v.1;
+            },
+          )

@@ -1,55 +1,53 @@
--- The gate of a step: its data by its code and its side, what stands at an offset, and which list it is taken from. Definitions only.
+-- The gate of a step: its data by its code and its side, what a reader reads next, and which list it is taken from. Definitions only.
 use Rattle.std.specs.Prelude.{◌≡◌, Bool, true, false, List, ◌∷◌, ℕ, zero, suc, ◌^◌, ◌<◌, ◌≤◌, min, max}
 use Rattle.gates.specs.declared.Operands.{Operands}
 use Rattle.gates.specs.declared.Rule.{Rule}
-use Rattle.gates.specs.declared.Decision.TheVariants.{Known}
+use Rattle.gates.specs.declared.Code.{Code}
 use Rattle.gates.specs.Gate.{Gate, Fits, AllFit, inverse}
-use Rattle.gates.specs.Rule.{decision, gate_rule}
+use Rattle.gates.specs.Code.{coded}
+use Rattle.gates.specs.Rule.{gate_rule}
+use Rattle.circuits.specs.declared.Gate.{Gate as GateData}
+use Rattle.circuits.specs.declared.Reader.{Reader}
 use Rattle.circuits.specs.Reading.{read, gate}
-use Rattle.circuits.specs.Codes.{gate_code}
 use Rattle.circuits.specs.Remaining.{Remaining}
 use Rattle.circuits.specs.Answers.{control, first_target, last_target}
+use Rattle.plans.specs.declared.Side.{Side}
 use Rattle.plans.specs.declared.Action.{Action}
-use Rattle.plans.specs.Prepare.{as_number, named_mask}
+use Rattle.plans.specs.Prepare.{side_of, named_mask}
 use Rattle.plans.specs.Layout.{Acts}
 use Rattle.choices.specs.declared.Offsets.{Offsets}
-use Rattle.choices.specs.declared.Taken.{Taken}
-use Rattle.choices.specs.declared.Next.{Next}
-
--- the data of a known code
-abbrev pub Ruled : ℕ → Rule → Type 0
-Ruled code r = (rule : Rule) → decision code ≡ Known rule → r ≡ rule
+use Rattle.choices.specs.declared.Lists.{Lists as Readers}
 
 -- a gate's inverse, as it is put on the right, or the gate, as it is put on the left
 abbrev pub sided : Bool → Gate → Gate
 sided true g = inverse g
 sided false g = g
 
-abbrev pub Sided : ℕ → ℕ → Rule → Type 0
-Sided side code r = (right : Bool) (g : Gate) → side ≡ as_number right → code ≡ gate_code g → r ≡ gate_rule (sided right g)
+abbrev pub Sided : Side → Code → Rule → Type 0
+Sided side code r = (right : Bool) (g : Gate) → side ≡ side_of right → code ≡ coded g → r ≡ gate_rule (sided right g)
 
 -- 2 to the power of a qubit
 abbrev pub Power : ℕ → ℕ → Type 0
 Power q r = (r ≤ 32768) × (q < 16 → r ≡ 2 ^ q)
 
 -- the qubits of a gate, by what was read of it; a mask never has more than this
-abbrev pub Named : Operands → ℕ → ℕ → ℕ → ℕ → Type 0
-Named operands c t u r =
-    (r ≤ 131071) × ((n : ℕ) (g : Gate) → n ≤ 16 → Fits n g → operands ≡ (gate_rule g).operands → c ≡ control g → t ≡ first_target g → u ≡ last_target g
-    → r ≡ named_mask g)
+abbrev pub Named : Operands → GateData → ℕ → Type 0
+Named operands what r =
+    (r ≤ 131071) × ((n : ℕ) (g : Gate) → n ≤ 16 → Fits n g → operands ≡ (gate_rule g).operands → what.control ≡ control g
+    → what.target ≡ first_target g → what.second ≡ last_target g → r ≡ named_mask g)
 
-pub record Acting (rule : Rule) (side c t u : ℕ) (r : Action) : Type 0 where
+pub record Acting (rule : Rule) (side : Side) (what : GateData) (r : Action) : Type 0 where
   pub rule_is : r.rule ≡ rule
   pub side_is : r.side ≡ side
-  pub named_is : Named rule.operands c t u r.named
-  pub low_is : r.low ≡ min t u
-  pub high_is : r.high ≡ max t u
+  pub named_is : Named rule.operands what r.named
+  pub low_is : r.low ≡ min what.target what.second
+  pub high_is : r.high ≡ max what.target what.second
 
--- the gate that stands at an offset
-abbrev pub Read : List ℕ → ℕ → ℕ → ℕ → Taken → Type 0
-Read bytes at n side r =
-    (right : Bool) (g : Gate) (next : ℕ) → side ≡ as_number right → n ≤ 16 → Fits n g → gate n bytes at ≡ read g next
-    → Acts n right (sided right g) r.action × (r.next ≡ next)
+-- the gate that a reader reads next, and where it stands after it
+pub record Read (old : Reader) (n : ℕ) (side : Side) (new : Reader) (r : Action) : Type 0 where
+  pub same_bytes : new.bytes ≡ old.bytes
+  pub taken : (right : Bool) (g : Gate) (next : ℕ) → side ≡ side_of right → n ≤ 16 → Fits n g → gate n old.bytes.now old.at ≡ read g next
+      → Acts n right (sided right g) r × (new.at ≡ next)
 
 -- "A step either puts the next gate of U on the left or the inverse of the next gate of V on the right."
 -- the side and the gate of a step, and the gates that are left after it, by the schedule's byte and the gates that were left
@@ -64,7 +62,13 @@ pub record Lists (n : ℕ) (u v : List ℕ) (offsets : Offsets) (us vs : List Ga
   pub fit_u : AllFit n us
   pub fit_v : AllFit n vs
 
-abbrev pub Chosen : List ℕ → List ℕ → ℕ → Offsets → ℕ → Next → Type 0
-Chosen u v step offsets n r =
-    (us vs us' vs' : List Gate) (right : Bool) (g : Gate) → Takes step us vs right g us' vs' → n ≤ 16 → Lists n u v offsets us vs
-    → Acts n right g r.action × Lists n u v r.offsets us' vs'
+-- the gates that are left of the two lists, where they are read next
+abbrev pub Left : ℕ → Readers → List Gate → List Gate → Type 0
+Left n lists us vs = Lists n lists.first.bytes.now lists.second.bytes.now (record { first = lists.first.at; second = lists.second.at }) us vs
+
+-- the two lists stay the same bytes, and the gate is the next of one of them
+pub record Chosen (old new : Readers) (step n : ℕ) (r : Action) : Type 0 where
+  pub same_first : new.first.bytes ≡ old.first.bytes
+  pub same_second : new.second.bytes ≡ old.second.bytes
+  pub next : (us vs us' vs' : List Gate) (right : Bool) (g : Gate) → Takes step us vs right g us' vs' → n ≤ 16 → Left n old us vs
+      → Acts n right g r × Left n new us' vs'

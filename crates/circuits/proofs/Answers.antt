@@ -1,58 +1,60 @@
--- What a match on an answer of the code says of the reading behind it.
+-- What a reader's answer says of the reading behind it.
 -- Assumes nothing.
-use mathlib.Core.Path.{◌≡◌, refl, sym, ◌∙◌}
-use mathlib.Core.Bool.{Bool, true, false, cond}
-use mathlib.Core.List.{List}
+use mathlib.Core.Path.{◌≡◌, sym, ◌∙◌, ap, subst}
 use Prim.Native.Nat.{ℕ}
 use native.Mathlib.Omega.{arith}
+use Rattle.std.specs.Prelude.{Result, Ok, Err}
 use Rattle.gates.specs.Gate.{Gate}
 use Rattle.circuits.specs.declared.Refusal.{Refusal}
-use Rattle.circuits.specs.declared.NumberRead.{NumberRead}
-use Rattle.circuits.specs.declared.GateRead.{GateRead}
-use Rattle.circuits.specs.Reading.{Reading, Reader, read, refused, pure, refuse, checked}
-use Rattle.circuits.specs.Codes.{gate_code}
-use Rattle.circuits.specs.Answers.{number_answer, kept, control, first_target, last_target, gate_answer}
+use Rattle.circuits.specs.declared.Gate.{Gate as GateRead}
+use Rattle.circuits.specs.declared.Reader.{Reader as ReaderAt}
+use Rattle.circuits.specs.Reading.{Reading, Reader, read, refused, followed, ◌>>=◌}
+use Rattle.circuits.specs.Answers.{Says, gate_data}
 
-module _ {answer : NumberRead} where
-  pub number_read : (m : Reading ℕ) {v next : ℕ} → answer ≡ number_answer m → answer ≡ NumberRead.Number v next → m ≡ read v next
-  number_read (read v next) e f = cc
-  number_read (refused r) e f = cc
+-- ---- what was read, and what was not
 
-  pub number_refused : (m : Reading ℕ) {r : Refusal} → answer ≡ number_answer m → answer ≡ NumberRead.Refused r → m ≡ refused r
-  number_refused (read v next) e f = cc
-  number_refused (refused r) e f = cc
+-- a value was read, and the reader has moved past it
+pub record Was {A B : Type 0} (f : A → B) (m : Reading A) (old new : ReaderAt) (b : B) : Type 0 where
+  pub value : A
+  pub was_read : m ≡ read value new.at
+  pub value_is : b ≡ f value
+  pub reader_is : new ≡ record old { at = new.at }
 
--- ---- a checked number
+module _ {A B : Type 0} (f : A → B) (old new : ReaderAt) (r : Result B Refusal) where
+  pub said_ok : (m : Reading A) {b : B} → Says f m old new r → r ≡ Ok b → Was f m old new b
+  said_ok (read a next) h e =
+      let at : new.at ≡ next = ap (λ (x : ReaderAt). x.at) h.1 in
+      record { value = a; was_read = ap (read a) (sym at); value_is = cc; reader_is = h.1 ∙ ap (λ (k : ℕ). record old { at = k }) (sym at) }
+  said_ok (refused why) (h, same) e = let z : ◌≡◌ {A = ℕ} 0 1 = cc in absurd (omega arith)
 
-module _ {answer : NumberRead} (number : ℕ) (test : ℕ → Bool) (m : Reader ℕ) (s : List ℕ) (at : ℕ) (answered : answer ≡ number_answer (m s at)) where
-  pub checked_kept : {r : NumberRead} {passes : Bool} {v next : ℕ} → answer ≡ NumberRead.Number v next → passes ≡ test v
-      → r ≡ kept passes number at v next → r ≡ number_answer (checked number test m s at)
-  checked_kept {passes = passes} {v} {next} e tested is = is ∙ rw (number_read (m s at) answered e, sym tested) (by_test passes)
-    where
-      by_test : (b : Bool) → kept b number at v next ≡ number_answer (cond b (pure v) (refuse number at) s next)
-      by_test true = refl
-      by_test false = refl
+  pub said_err : (m : Reading A) {why : Refusal} → Says f m old new r → r ≡ Err why → m ≡ refused why
+  said_err (read a next) (h, moved) e = let z : ◌≡◌ {A = ℕ} 0 1 = cc in absurd (omega arith)
+  said_err (refused why) (h, same) e = ap refused cc
 
-  pub checked_refused : {why : Refusal} → answer ≡ NumberRead.Refused why → NumberRead.Refused why ≡ number_answer (checked number test m s at)
-  checked_refused e = rw (number_refused (m s at) answered e)
+-- one reader goes on where another ended
+module _ {A A' B C : Type 0} (f : A → A') (g : B → C) (m : Reader A) (k : A → Reader B) (old mid new : ReaderAt) (r' : Result A' Refusal)
+    (r : Result C Refusal) where
+  moved : (x : Reading B) (next : ℕ) → Says g x (record old { at = next }) new r → Says g x old new r
+  moved (read b end) next h = h
+  moved (refused why) next h = h
+
+  from : (x : Reading A) {v : A'} → Says f x old mid r' → r' ≡ Ok v
+      → ((a : A) → v ≡ f a → Says g (k a mid.bytes.now mid.at) mid new r) → Says g (followed x (λ a next. k a old.bytes.now next)) old new r
+  from (read a next) h e go =
+      moved (k a old.bytes.now next) next (subst (λ (x : ReaderAt). Says g (k a x.bytes.now x.at) x new r) h.1 (go a cc))
+  from (refused why) (h, same) e go = let z : ◌≡◌ {A = ℕ} 0 1 = cc in absurd (omega arith)
+
+  pub said_then : {v : A'} → Says f (m old.bytes.now old.at) old mid r' → r' ≡ Ok v
+      → ((a : A) → v ≡ f a → Says g (k a mid.bytes.now mid.at) mid new r) → Says g ((m >>= k) old.bytes.now old.at) old new r
+  said_then = from (m old.bytes.now old.at)
 
 -- ---- gates
 
--- the gate of which these are the code, the control or mask, the targets and the offset after it
-pub record Found (m : Reading Gate) (code control_is target_is second_is next : ℕ) : Type 0 where
-  pub g : Gate
-  pub was_read : m ≡ read g next
-  pub of_code : gate_code g ≡ code
-  pub of_control : control g ≡ control_is
-  pub of_target : first_target g ≡ target_is
-  pub of_second : last_target g ≡ second_is
+-- a gate's reading as the code has it
+abbrev pub with_data : Reading Gate → Reading GateRead
+with_data (read g next) = read (gate_data g) next
+with_data (refused r) = refused r
 
-module _ {answer : GateRead} where
-  pub gate_read : (m : Reading Gate) {code p q r next : ℕ}
-      → answer ≡ gate_answer m → answer ≡ GateRead.Gate code p q r next → Found m code p q r next
-  gate_read (read g next) e f = record { g = g; was_read = cc; of_code = cc; of_control = cc; of_target = cc; of_second = cc }
-  gate_read (refused r) e f = let z : ◌≡◌ {A = ℕ} 0 1 = cc in absurd (omega arith)
-
-  pub gate_refused : (m : Reading Gate) {r : Refusal} → answer ≡ gate_answer m → answer ≡ GateRead.Refused r → m ≡ refused r
-  gate_refused (read v next) e f = cc
-  gate_refused (refused r) e f = cc
+pub data_said : (m : Reading Gate) (old new : ReaderAt) (r : Result GateRead Refusal) → Says (λ g. g) (with_data m) old new r → Says gate_data m old new r
+data_said (read g next) old new r h = h
+data_said (refused why) old new r h = h

@@ -8,6 +8,7 @@ use lib.Count.{ones}
 use Rattle.gates.specs.Gate.{in_mask}
 use borrow.Author.Tests.{ltb-true, leb-true, eqb-false, not-true}
 use lib.Dec.{ltb, leb, eqb}
+use Rattle.circuits.specs.declared.Fault.{Fault}
 use Rattle.circuits.specs.Refusals.{no_such_qubit, control_is_target, too_few_controls}
 use Rattle.circuits.specs.Reading.{read, number, qubit, target_qubit, mask_below, mask, free_qubit, second_qubit, count}
 use Rattle.circuits.proofs.Readings.{checked_read}
@@ -52,10 +53,10 @@ module _ (s : List ℕ) (at : ℕ) {v next : ℕ} where
       let q = free_checked n m c.0 in
       (q.0, q.1, q.2, λ f. eqb-false v p (not-true _ c.1) (sym f))
 
-  pub count_checked : (low high refusal : ℕ) → count low high refusal s at ≡ read v next
+  pub count_checked : (low high : ℕ) (fault : Fault) → count low high fault s at ≡ read v next
       → (number s at ≡ read v next) × (low ≤ v) × (v ≤ high)
   unfolding count
-  count_checked low high refusal e =
-      let c = checked_read refusal (λ v. leb low v && leb v high) number s at e in
+  count_checked low high fault e =
+      let c = checked_read fault (λ v. leb low v && leb v high) number s at e in
       let t = both (leb low v) (leb v high) c.1 in
       (c.0, leb-true low v t.0, leb-true v high t.1)

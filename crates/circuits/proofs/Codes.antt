@@ -1,20 +1,24 @@
--- Gate codes: what a decision says of a code's meaning, and the codes of the gates.
+-- Gate codes: what a decision says of a code's meaning, the codes of the gates, and what is read after them.
 -- Assumes nothing.
-use mathlib.Core.Path.{◌≡◌, refl, sym, ◌∙◌, ap, ap₂}
+use mathlib.Core.Path.{◌≡◌, refl, sym, ◌∙◌, ap, subst}
 use mathlib.Core.Logic.{◌⊎◌, inl, inr, ⊎_elim}
 use mathlib.Core.List.{List}
 use Prim.Native.Nat.{ℕ, zero, suc}
+use Rattle.std.specs.Prelude.{Some, Result}
 use Rattle.gates.specs.Gate.{Kind, X, Y, Z, H, S, S†, T, T†, Pair, CNOT, CZ, Gate, on, pair, toffoli, fredkin}
 use Rattle.gates.specs.Gate.{Meant, one, two, mask_one, mask_two, unknown, meant, inverse}
+use Rattle.gates.specs.Code.{code_number, coded}
+use Rattle.gates.specs.declared.Code.{Code}
 use Rattle.gates.specs.declared.Rule.{Rule}
-use Rattle.gates.specs.declared.Decision.{Decision}
-use Rattle.gates.specs.declared.Operands.{Operands}
 use Rattle.gates.specs.declared.Operands.TheVariants.{Qubit, Controlled}
-use Rattle.gates.specs.Rule.{kind_rule, pair_rule, rule_of, decision, gate_rule}
-use Rattle.circuits.specs.declared.GateRead.{GateRead}
+use Rattle.gates.specs.Rule.{kind_rule, pair_rule, code_rule, rule_of, decision, gate_rule}
+use Rattle.circuits.specs.declared.Refusal.{Refusal}
+use Rattle.circuits.specs.declared.Gate.{Gate as GateRead}
+use Rattle.circuits.specs.declared.Reader.{Reader as ReaderAt}
 use Rattle.circuits.specs.Reading.{Reading, read, refused, qubit, target_qubit, mask, free_qubit, second_qubit, operands, followed}
 use Rattle.circuits.specs.Codes.{kind_code, pair_code, gate_code}
-use Rattle.circuits.specs.Answers.{number_answer, gate_answer, placed, swapped, controlled, exchanging, masked, operands_answer}
+use Rattle.circuits.specs.Answers.{Says, gate_data, operands_data}
+use Rattle.circuits.proofs.Answers.{with_data, data_said}
 
 -- ---- the code of each meaning, and the meaning of each code
 
@@ -73,15 +77,44 @@ meant_mask_two code e = ⊎_elim (λ f. sym f ∙ ap code_of e) (λ f. cc) (code
 -- ---- what a decision says of the code
 
 -- each gate's code is decided as the gate's data
-pub gate_decided : (g : Gate) → decision (gate_code g) ≡ Decision.Known (gate_rule g)
+pub gate_decided : (g : Gate) → decision (gate_code g) ≡ Some (gate_rule g)
 unfolding decision meant
 gate_decided (on k q) = ap rule_of (kind_meant k)
 gate_decided (pair k p q) = ap rule_of (pair_meant k)
 gate_decided (toffoli mask q) = refl
 gate_decided (fredkin mask p q) = refl
 
+-- and so are they by the code as the code names it
+pub coded_rule : (g : Gate) → code_rule (coded g) ≡ gate_rule g
+coded_rule (on X q) = refl
+coded_rule (on Y q) = refl
+coded_rule (on Z q) = refl
+coded_rule (on H q) = refl
+coded_rule (on S q) = refl
+coded_rule (on S† q) = refl
+coded_rule (on T q) = refl
+coded_rule (on T† q) = refl
+coded_rule (pair CNOT p q) = refl
+coded_rule (pair CZ p q) = refl
+coded_rule (toffoli mask q) = refl
+coded_rule (fredkin mask p q) = refl
+
+pub coded_number : (g : Gate) → code_number (coded g) ≡ gate_code g
+coded_number (on X q) = refl
+coded_number (on Y q) = refl
+coded_number (on Z q) = refl
+coded_number (on H q) = refl
+coded_number (on S q) = refl
+coded_number (on S† q) = refl
+coded_number (on T q) = refl
+coded_number (on T† q) = refl
+coded_number (pair CNOT p q) = refl
+coded_number (pair CZ p q) = refl
+coded_number (toffoli mask q) = refl
+coded_number (fredkin mask p q) = refl
+
 -- the code of the inverse is among them
-pub inverse_code : (g : Gate) → (gate_rule g).inverse ≡ gate_code (inverse g)
+pub inverse_code : (g : Gate) → (gate_rule g).inverse ≡ coded (inverse g)
 inverse_code (on X q) = refl
 inverse_code (on Y q) = refl
 inverse_code (on Z q) = refl
@@ -109,73 +142,65 @@ pub pair_operands : (k : Pair) → (pair_rule k).operands ≡ Controlled
 pair_operands CNOT = refl
 pair_operands CZ = refl
 
--- what follows the code of a decided gate
-abbrev operands_of : Decision → Operands
-operands_of (Decision.Known rule) = rule.operands
-operands_of Decision.Unknown = Qubit
+-- ---- the data of a gate, by what follows its code
 
-unknown_rule : (m : Meant) → rule_of m ≡ Decision.Unknown → m ≡ unknown
-unknown_rule (one k) e = cc
-unknown_rule (two k) e = cc
-unknown_rule mask_one e = cc
-unknown_rule mask_two e = cc
-unknown_rule unknown e = refl
-
--- ---- the answer for a gate, by what follows its code
-
--- a gate that ends with its only target, and one that ends with its second
-placed_answer : (code control : ℕ) (make : ℕ → Gate) → ((q next : ℕ) → GateRead.Gate code control q q next ≡ gate_answer (read (make q) next))
-    → (last : Reading ℕ) → placed code control (number_answer last) ≡ gate_answer (followed last (λ q next. read (make q) next))
-placed_answer code control make same (read q next) = same q next
-placed_answer code control make same (refused r) = refl
-
-swapped_answer : (m p : ℕ) (last : Reading ℕ) → swapped 11 m p (number_answer last) ≡ gate_answer (followed last (λ q next. read (fredkin m p q) next))
-swapped_answer m p (read q next) = refl
-swapped_answer m p (refused r) = refl
+-- a gate that ends with its last target
+last_data : (make : ℕ → Gate) (m : Reading ℕ)
+    → followed m (λ q next. read (gate_data (make q)) next) ≡ with_data (followed m (λ q next. read (make q) next))
+last_data make (read q next) = refl
+last_data make (refused r) = refl
 
 module _ (n : ℕ) (s : List ℕ) where
-  pair_answer : (k : Pair) (first : Reading ℕ) → controlled (pair_code k) n s (number_answer first)
-      ≡ gate_answer (followed first (λ p next. followed (target_qubit n p s next) (λ q next. read (pair k p q) next)))
-  pair_answer k (read p next) = placed_answer (pair_code k) p (pair k p) (λ q next. refl) (target_qubit n p s next)
-  pair_answer k (refused r) = refl
+  pair_data : (k : Pair) (first : Reading ℕ)
+      → followed first (λ p next. followed (target_qubit n p s next) (λ q next. read (gate_data (pair k p q)) next))
+      ≡ with_data (followed first (λ p next. followed (target_qubit n p s next) (λ q next. read (pair k p q) next)))
+  pair_data k (read p next) = last_data (pair k p) (target_qubit n p s next)
+  pair_data k (refused r) = refl
 
-  toffoli_answer : (first : Reading ℕ) → masked 10 1 n s (number_answer first)
-      ≡ gate_answer (followed first (λ m next. followed (free_qubit n m s next) (λ q next. read (toffoli m q) next)))
-  toffoli_answer (read m next) = placed_answer 10 m (toffoli m) (λ q next. refl) (free_qubit n m s next)
-  toffoli_answer (refused r) = refl
+  toffoli_data : (first : Reading ℕ)
+      → followed first (λ m next. followed (free_qubit n m s next) (λ q next. read (gate_data (toffoli m q)) next))
+      ≡ with_data (followed first (λ m next. followed (free_qubit n m s next) (λ q next. read (toffoli m q) next)))
+  toffoli_data (read m next) = last_data (toffoli m) (free_qubit n m s next)
+  toffoli_data (refused r) = refl
 
-  exchanging_answer : (m : ℕ) (first : Reading ℕ) → exchanging 11 m n s (number_answer first)
-      ≡ gate_answer (followed first (λ p next. followed (second_qubit n m p s next) (λ q next. read (fredkin m p q) next)))
-  exchanging_answer m (read p next) = swapped_answer m p (second_qubit n m p s next)
-  exchanging_answer m (refused r) = refl
+  second_data : (m : ℕ) (first : Reading ℕ)
+      → followed first (λ p next. followed (second_qubit n m p s next) (λ q next. read (gate_data (fredkin m p q)) next))
+      ≡ with_data (followed first (λ p next. followed (second_qubit n m p s next) (λ q next. read (fredkin m p q) next)))
+  second_data m (read p next) = last_data (fredkin m p) (second_qubit n m p s next)
+  second_data m (refused r) = refl
 
-  fredkin_answer : (first : Reading ℕ) → masked 11 2 n s (number_answer first) ≡ gate_answer (followed first (λ m next.
-      followed (free_qubit n m s next) (λ p next. followed (second_qubit n m p s next) (λ q next. read (fredkin m p q) next))))
-  fredkin_answer (read m next) = exchanging_answer m (free_qubit n m s next)
-  fredkin_answer (refused r) = refl
+  fredkin_data : (first : Reading ℕ)
+      → followed first (λ m next. followed (free_qubit n m s next) (λ p next.
+      followed (second_qubit n m p s next) (λ q next. read (gate_data (fredkin m p q)) next)))
+      ≡ with_data (followed first (λ m next. followed (free_qubit n m s next) (λ p next.
+      followed (second_qubit n m p s next) (λ q next. read (fredkin m p q) next))))
+  fredkin_data (read m next) = second_data m (free_qubit n m s next)
+  fredkin_data (refused r) = refl
 
-  meant_answer : (start at code : ℕ) {rule : Rule} (m : Meant) → meant code ≡ m → rule_of m ≡ Decision.Known rule
-      → operands_answer code n s at rule.operands ≡ gate_answer (operands n start m s at)
-  meant_answer start at code (one k) e f =
-      ap₂ (λ (c : ℕ) (o : Operands). operands_answer c n s at o) (meant_one code e) (ap operands_of (sym f) ∙ kind_operands k)
-      ∙ placed_answer (kind_code k) 0 (on k) (λ q next. refl) (qubit n s at)
-  meant_answer start at code (two k) e f =
-      ap₂ (λ (c : ℕ) (o : Operands). operands_answer c n s at o) (meant_two code e) (ap operands_of (sym f) ∙ pair_operands k)
-      ∙ pair_answer k (qubit n s at)
-  meant_answer start at code mask_one e f =
-      ap₂ (λ (c : ℕ) (o : Operands). operands_answer c n s at o) (meant_mask_one code e) (ap operands_of (sym f)) ∙ toffoli_answer (mask n 2 s at)
-  meant_answer start at code mask_two e f =
-      ap₂ (λ (c : ℕ) (o : Operands). operands_answer c n s at o) (meant_mask_two code e) (ap operands_of (sym f)) ∙ fredkin_answer (mask n 1 s at)
-  meant_answer start at code unknown e f = cc
+  pub code_data : (start at : ℕ) (c : Code) → operands_data n c (code_rule c).operands s at ≡ with_data (operands n start (meant (code_number c)) s at)
+  unfolding meant
+  code_data start at Code.X = last_data (on X) (qubit n s at)
+  code_data start at Code.Y = last_data (on Y) (qubit n s at)
+  code_data start at Code.Z = last_data (on Z) (qubit n s at)
+  code_data start at Code.H = last_data (on H) (qubit n s at)
+  code_data start at Code.S = last_data (on S) (qubit n s at)
+  code_data start at Code.SDagger = last_data (on S†) (qubit n s at)
+  code_data start at Code.T = last_data (on T) (qubit n s at)
+  code_data start at Code.TDagger = last_data (on T†) (qubit n s at)
+  code_data start at Code.Cnot = pair_data CNOT (qubit n s at)
+  code_data start at Code.Cz = pair_data CZ (qubit n s at)
+  code_data start at Code.Toffoli = toffoli_data (mask n 2 s at)
+  code_data start at Code.Fredkin = fredkin_data (mask n 1 s at)
 
--- ---- what a match on a decision says
-
-module _ {d : Decision} (code : ℕ) (e : d ≡ decision code) where
-  pub decided_unknown : d ≡ Decision.Unknown → meant code ≡ unknown
-  unfolding decision
-  decided_unknown f = unknown_rule (meant code) (sym e ∙ f)
-
-  pub decided_known : {rule : Rule} {answer : GateRead} (n start : ℕ) (s : List ℕ) (at : ℕ) → d ≡ Decision.Known rule
-      → answer ≡ operands_answer code n s at rule.operands → answer ≡ gate_answer (operands n start (meant code) s at)
-  unfolding decision
-  decided_known n start s at f a = a ∙ meant_answer n s start at code (meant code) refl (sym e ∙ f)
+  -- what was read after a code is what its number means
+  pub code_said : (start at : ℕ) (c : Code) (rule : Rule) (code : ℕ) (old new : ReaderAt) (r : Result GateRead Refusal)
+      → rule ≡ code_rule c → code_number c ≡ code → Says (λ g. g) (operands_data n c rule.operands s at) old new r
+      → Says gate_data (operands n start (meant code) s at) old new r
+  code_said start at c rule code old new r is number h =
+      data_said (operands n start (meant code) s at) old new r
+      (subst (λ (m : Reading GateRead). Says (λ g. g) m old new r) same h)
+    where
+      same : operands_data n c rule.operands s at ≡ with_data (operands n start (meant code) s at)
+      same =
+          ap (λ (x : Rule). operands_data n c x.operands s at) is ∙ code_data start at c
+          ∙ ap (λ (x : ℕ). with_data (operands n start (meant x) s at)) number

@@ -1,24 +1,23 @@
--- Masks by shifts: what a shift by 32 or more would give, and when nothing is left of a mask.
+-- Masks by shifts: what a shift leaves, and when it leaves nothing.
 -- Assumes nothing.
-use mathlib.Core.Bool.{true, false}
-use mathlib.Core.Path.{◌≡◌, sym, ◌∙◌, ap}
-use Prim.Native.Nat.{ℕ, ◌/◌, ◌%◌, ◌^◌, ◌<◌, ◌≤◌}
+use mathlib.Core.Path.{◌≡◌, sym, ◌∙◌}
+use Prim.Native.Nat.{ℕ, ◌/◌, ◌^◌, ◌<◌, ◌≤◌}
 use native.Mathlib.Decide.{dec_lt}
 use native.Mathlib.Nat.{div-eq_of_lt, div-lt_iff_lt-mul, lt_of_lt_of_le, one-mul}
 use native.Mathlib.Omega.{arith}
 use lib.Dec.{eqb, ltb}
 use lib.Pow.{pow_pos, pow_mono}
 use borrow.Author.Tests.{eq-eqb, ne_eqb, lt-ltb, le-ltb}
-use Rattle.gates.specs.Gate.{in_mask}
+use Rattle.std.specs.Prelude.{Option, Some, None}
+use Rattle.std.specs.Option.{SomeIff, unwrap_or}
 
 wide : (mask q : ℕ) → mask < 2 ^ 32 → 32 ≤ q → mask < 2 ^ q
 wide mask q small past = lt_of_lt_of_le small (pow_mono {i = 32} {j = q} past)
 
-pub no_bit : (mask q : ℕ) → mask < 2 ^ 32 → 32 ≤ q → false ≡ in_mask mask q
-no_bit mask q small past = sym (ap (λ (m : ℕ). eqb (m % 2) 1) (div-eq_of_lt (wide mask q small past)))
-
-pub all_below : (mask n : ℕ) → mask < 2 ^ 32 → 32 ≤ n → true ≡ ltb mask (2 ^ n)
-all_below mask n small past = sym (lt-ltb mask (2 ^ n) (wide mask n small past))
+-- a shift is a division by a power of two, and leaves nothing from 32 on
+pub shifted : (mask q : ℕ) (rest : Option ℕ) → mask < 2 ^ 32 → SomeIff rest (q < 32) (mask / 2 ^ q) → unwrap_or rest 0 ≡ mask / 2 ^ q
+shifted mask q (Some x) small h = h.1
+shifted mask q None small h = sym (div-eq_of_lt (wide mask q small (omega (arith, h))))
 
 pub nothing_left : (mask n : ℕ) → eqb (mask / 2 ^ n) 0 ≡ ltb mask (2 ^ n)
 nothing_left mask n = by_order (dec_lt mask (2 ^ n))

@@ -8,6 +8,7 @@ use Prim.Native.Nat.{ℕ, zero, suc}
 use native.Mathlib.Omega.{arith}
 use lib.ListN.{length}
 use Rattle.gates.specs.Gate.{Gate}
+use Rattle.circuits.specs.declared.Fault.{Fault}
 use Rattle.circuits.specs.declared.Refusal.{Refusal}
 use Rattle.circuits.specs.Reading.{Reading, read, refused, Reader, followed, pure, refuse, checked, gate, gates}
 
@@ -51,15 +52,15 @@ parts (refused r) e = absurd (refused_read e)
 -- ---- a checked reader
 
 -- what it gives was read, and passed the test
-pub checked_read : {A : Type 0} (number : ℕ) (test : A → Bool) (m : Reader A) (s : List ℕ) (at : ℕ) {a : A} {next : ℕ}
-    → checked number test m s at ≡ read a next → (m s at ≡ read a next) × (test a ≡ true)
-checked_read number test m s at e =
+pub checked_read : {A : Type 0} (fault : Fault) (test : A → Bool) (m : Reader A) (s : List ℕ) (at : ℕ) {a : A} {next : ℕ}
+    → checked fault test m s at ≡ read a next → (m s at ≡ read a next) × (test a ≡ true)
+checked_read fault test m s at e =
     let p = parts (m s at) e in
     let t = passed (test p.value) p.second in
     (p.first ∙ t.1, subst (λ a. test a ≡ true) (read_value t.1) t.0)
   where
     passed : {A : Type 0} {a b : A} {mid next : ℕ} (t : Bool)
-        → cond t (pure a) (refuse number at) s mid ≡ read b next → (t ≡ true) × (read a mid ≡ read b next)
+        → cond t (pure a) (refuse fault at) s mid ≡ read b next → (t ≡ true) × (read a mid ≡ read b next)
     passed true e = (refl, e)
     passed false e = absurd (refused_read e)
 

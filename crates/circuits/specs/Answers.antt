@@ -1,17 +1,29 @@
--- What the code answers for each thing read: the paper's numbers and values for each case. Definitions only.
-use Rattle.std.specs.Prelude.{ℕ, Bool, cond, List, eqb}
+-- What the code answers for each thing read: the values and the refusal for each case, and where the reader stands. Definitions only.
+use Rattle.std.specs.Prelude.{◌≡◌, ℕ, Bool, cond, List, eqb, Result, Ok, Err}
+use Rattle.std.specs.Borrow.{Bor}
 use Rattle.gates.specs.Gate.{Gate, on, pair, toffoli, fredkin}
+use Rattle.gates.specs.Code.{coded}
+use Rattle.gates.specs.declared.Code.{Code}
 use Rattle.gates.specs.declared.Operands.{Operands}
 use Rattle.gates.specs.declared.Operands.TheVariants.{Qubit, Controlled, Masked}
-use Rattle.circuits.specs.declared.NumberRead.{NumberRead}
-use Rattle.circuits.specs.declared.GateRead.{GateRead}
+use Rattle.circuits.specs.declared.Fault.{Fault}
+use Rattle.circuits.specs.declared.Refusal.{Refusal}
+use Rattle.circuits.specs.declared.Gate.{Gate as GateRead}
+use Rattle.circuits.specs.declared.Reader.{Reader as ReaderAt}
 use Rattle.circuits.specs.Refusals.{refusal}
-use Rattle.circuits.specs.Reading.{Reading, read, refused, qubit, target_qubit, mask, free_qubit, second_qubit}
-use Rattle.circuits.specs.Codes.{gate_code}
+use Rattle.circuits.specs.Reading.{Reading, Reader, read, refused, ◌>>=◌, pure, qubit, target_qubit, mask, free_qubit, second_qubit}
 
-abbrev pub number_answer : Reading ℕ → NumberRead
-number_answer (read v next) = NumberRead.Number v next
-number_answer (refused r) = NumberRead.Refused r
+-- a reader borrows the list's bytes, and stands at an offset of them
+abbrev pub reader_at : Bor (List ℕ) → ℕ → ReaderAt
+reader_at bytes at = record { bytes = bytes; at = at }
+
+-- what a reader returns for what stands next, and how it moves: the value, as the code has it, and past it; or the refusal, and then it
+-- reads the same bytes, and where in them is left open
+abbrev pub Says : {A B : Type 0} → (A → B) → Reading A → ReaderAt → ReaderAt → Result B Refusal → Type 0
+Says f (read a next) old new r = (r ≡ Ok (f a)) × (new ≡ record old { at = next })
+Says f (refused why) old new r = (r ≡ Err why) × (new.bytes ≡ old.bytes)
+
+-- ---- gates
 
 -- what stands before a gate's targets: its control or its mask, 0 where it names one qubit
 abbrev pub control : Gate → ℕ
@@ -33,45 +45,46 @@ last_target (pair k p q) = q
 last_target (toffoli mask q) = q
 last_target (fredkin mask p q) = q
 
-abbrev pub gate_answer : Reading Gate → GateRead
-gate_answer (read g next) = GateRead.Gate (gate_code g) (control g) (first_target g) (last_target g) next
-gate_answer (refused r) = GateRead.Refused r
+-- a gate as the code has it
+abbrev pub gate_data : Gate → GateRead
+gate_data g = record { code = coded g; control = control g; target = first_target g; second = last_target g }
 
 -- ---- the parts of a gate, for the functions that read them
 
--- a number that was read at an offset, by whether it passes its test
-abbrev pub kept : Bool → ℕ → ℕ → ℕ → ℕ → NumberRead
-kept passes number at value next = cond passes (NumberRead.Number value next) (NumberRead.Refused (refusal number at))
+-- a number that starts at an offset, by whether it passes its test
+abbrev pub kept : Bool → Fault → ℕ → ℕ → Result ℕ Refusal
+kept passes fault at value = cond passes (Ok value) (Err (refusal fault at))
 
--- by its only target, after its code and its control or mask
-abbrev pub placed : ℕ → ℕ → NumberRead → GateRead
-placed code control (NumberRead.Number q next) = GateRead.Gate code control q q next
-placed code control (NumberRead.Refused r) = GateRead.Refused r
+-- a gate of this code with its control or its mask, and its targets
+abbrev pub data_of : Code → ℕ → ℕ → ℕ → GateRead
+data_of code control target second = record { code = code; control = control; target = target; second = second }
 
--- by its second target, after its code, its mask and its first target
-abbrev pub swapped : ℕ → ℕ → ℕ → NumberRead → GateRead
-swapped code mask p (NumberRead.Number q next) = GateRead.Gate code mask p q next
-swapped code mask p (NumberRead.Refused r) = GateRead.Refused r
+-- a control and a target; the list has n qubits
+abbrev pub controlled : ℕ → Code → Reader GateRead
+controlled n code = do
+  p ← qubit n
+  q ← target_qubit n p
+  pure (data_of code p q q)
 
--- by its control; the list has n qubits
-abbrev pub controlled : ℕ → ℕ → List ℕ → NumberRead → GateRead
-controlled code n bytes (NumberRead.Number p next) = placed code p (number_answer (target_qubit n p bytes next))
-controlled code n bytes (NumberRead.Refused r) = GateRead.Refused r
+-- a mask of at least so many controls and one target
+abbrev pub masked : ℕ → Code → ℕ → Reader GateRead
+masked n code least = do
+  m ← mask n least
+  q ← free_qubit n m
+  pure (data_of code m q q)
 
--- by its first target of two, after its mask
-abbrev pub exchanging : ℕ → ℕ → ℕ → List ℕ → NumberRead → GateRead
-exchanging code mask n bytes (NumberRead.Number p next) = swapped code mask p (number_answer (second_qubit n mask p bytes next))
-exchanging code mask n bytes (NumberRead.Refused r) = GateRead.Refused r
-
--- by its mask, before so many targets
-abbrev pub masked : ℕ → ℕ → ℕ → List ℕ → NumberRead → GateRead
-masked code targets n bytes (NumberRead.Number m next) =
-    let first = number_answer (free_qubit n m bytes next) in
-    cond (eqb targets 2) (exchanging code m n bytes first) (placed code m first)
-masked code targets n bytes (NumberRead.Refused r) = GateRead.Refused r
+-- and two targets
+abbrev pub exchanging : ℕ → Code → ℕ → Reader GateRead
+exchanging n code least = do
+  m ← mask n least
+  p ← free_qubit n m
+  q ← second_qubit n m p
+  pure (data_of code m p q)
 
 -- by what follows its code
-abbrev pub operands_answer : ℕ → ℕ → List ℕ → ℕ → Operands → GateRead
-operands_answer code n bytes at Qubit = placed code 0 (number_answer (qubit n bytes at))
-operands_answer code n bytes at Controlled = controlled code n bytes (number_answer (qubit n bytes at))
-operands_answer code n bytes at (Masked least targets) = masked code targets n bytes (number_answer (mask n least bytes at))
+abbrev pub operands_data : ℕ → Code → Operands → Reader GateRead
+operands_data n code Qubit = do
+  q ← qubit n
+  pure (data_of code 0 q q)
+operands_data n code Controlled = controlled n code
+operands_data n code (Masked least targets) = cond (eqb targets 2) (exchanging n code least) (masked n code least)

@@ -1,7 +1,8 @@
 -- What the bytes of a gate list say: numbers, gates and lists, each read at an offset. Definitions only.
-use Rattle.std.specs.Prelude.{Bool, not, cond, ◌&&◌, List, [], ◌∷◌, ℕ, zero, suc, ◌+◌, ◌*◌, ◌%◌, ◌^◌, length, drop, eqb, leb, ltb}
+use Rattle.std.specs.Prelude.{Bool, not, cond, ◌&&◌, List, [], ◌∷◌, ℕ, zero, suc, ◌+◌, ◌*◌, ◌%◌, ◌^◌, length, drop, slice_index, eqb, leb, ltb}
 use Rattle.std.specs.Int.Count.{ones}
 use Rattle.gates.specs.Gate.{Gate, on, pair, toffoli, fredkin, in_mask, Meant, one, two, mask_one, mask_two, unknown, meant}
+use Rattle.circuits.specs.declared.Fault.{Fault}
 use Rattle.circuits.specs.declared.Refusal.{Refusal}
 use Rattle.circuits.specs.declared.Limits.{Limits}
 use Rattle.circuits.specs.Refusals.{refusal, ends_early, not_shortest, bad_qubit_count, bad_gate_count}
@@ -34,15 +35,15 @@ pure a bytes at = read a at
 abbrev pub here : Reader ℕ
 here bytes at = read at at
 
-abbrev pub refuse : {A : Type 0} → ℕ → ℕ → Reader A
-refuse number offset bytes at = refused (refusal number offset)
+abbrev pub refuse : {A : Type 0} → Fault → ℕ → Reader A
+refuse fault offset bytes at = refused (refusal fault offset)
 
 -- "each number is checked as it is read": where the test fails it is refused at the offset of its first byte
-abbrev pub checked : {A : Type 0} → ℕ → (A → Bool) → Reader A → Reader A
-checked number test m = do
+abbrev pub checked : {A : Type 0} → Fault → (A → Bool) → Reader A → Reader A
+checked fault test m = do
   start ← here
   a ← m
-  cond (test a) (pure a) (refuse number start)
+  cond (test a) (pure a) (refuse fault start)
 
 -- ---- numbers
 
@@ -67,6 +68,10 @@ first_group at (x ∷ s) = cond (ltb x 128) (read x (at + 1)) (second_group at x
 
 unfoldable pub number : Reader ℕ
 number bytes at = first_group at (drop at bytes)
+
+-- the next byte of a number that starts at `start`
+abbrev pub byte : ℕ → Reader ℕ
+byte start bytes at = cond (ltb at (length bytes)) (read (slice_index bytes at) (at + 1)) (refused (refusal ends_early start))
 
 -- ---- gates
 
@@ -135,8 +140,8 @@ pub record Circuit : Type 0 where
   pub gates : List Gate
 
 -- a count from `low` to `high`
-unfoldable pub count : ℕ → ℕ → ℕ → Reader ℕ
-count low high refusal = checked refusal (λ v. leb low v && leb v high) number
+unfoldable pub count : ℕ → ℕ → Fault → Reader ℕ
+count low high fault = checked fault (λ v. leb low v && leb v high) number
 
 abbrev pub end : Reader ℕ
 end bytes at = cond (ltb at (length bytes)) (refused (refusal bytes_remain at)) (read at at)

@@ -1,55 +1,54 @@
-// Gate lists as bytes: numbers and gates, read by slice and offset. Any bytes and any offset are safe input.
+// Gate lists as bytes: numbers and gates, read one after another. Any bytes and any offset are safe input.
 #![tactic(auto)]
 
 ghost use Rattle.std.specs.Prelude.{◌≡◌, ◌^◌, ltb};
 ghost use Rattle.gates.specs.Gate.{in_mask};
-ghost use Rattle.circuits.specs.Refusals.{base_limits};
-ghost use Rattle.circuits.specs.Reading.{last_group, number, qubit, target_qubit, mask_below, mask, free_qubit, second_qubit, gate};
-ghost use Rattle.circuits.specs.Answers.{number_answer, kept, placed, swapped, controlled, exchanging, masked};
-ghost use Rattle.circuits.specs.Answers.{operands_answer, gate_answer};
+ghost use Rattle.circuits.specs.Refusals.{fault_number, base_limits};
+ghost use Rattle.circuits.specs.Reading.{byte, number, qubit, target_qubit, mask_below, mask, free_qubit, second_qubit, gate};
+ghost use Rattle.circuits.specs.Answers.{reader_at, kept, Says, gate_data, controlled, masked, exchanging, operands_data};
 
-use gates::{Decision, Operands};
+use gates::{Code, Operands, UnknownCode};
 
 // ---- answers
 
-// A refusal by its number in the paper's table, and the offset that it returns.
-#[derive(Clone, Copy)]
+// Why a list is refused, by its number in the paper's table.
+#[derive(Clone, Copy, PartialEq, Eq, Debug)]
+pub enum Fault {
+    EndsEarly = 3,
+    NotShortest = 4,
+    QubitCount = 5,
+    GateCount = 6,
+    UnknownCode = 7,
+    NoSuchQubit = 8,
+    ControlIsTarget = 9,
+    BytesRemain = 10,
+    TooFewControls = 17,
+}
+
+impl Fault {
+    // Its number in the paper's table.
+    pub fn number(self) -> u32
+        ensures { result ≡ fault_number self }
+    {
+        self as u32
+    }
+}
+
+// A fault and the offset that it returns.
+#[derive(Clone, Copy, PartialEq, Eq, Debug)]
 pub struct Refusal {
-    pub number: u32,
+    pub fault: Fault,
     pub offset: usize,
 }
 
-const ENDS_EARLY: u32 = 3;
-
-const NOT_SHORTEST: u32 = 4;
-
-const UNKNOWN_CODE: u32 = 7;
-
-const NO_SUCH_QUBIT: u32 = 8;
-
-const CONTROL_IS_TARGET: u32 = 9;
-
-const TOO_FEW_CONTROLS: u32 = 17;
-
-// A number and the offset after it, or why there is none.
-#[derive(Clone, Copy)]
-pub enum NumberRead {
-    Number { value: u32, next: usize },
-    Refused(Refusal),
-}
-
-// A gate and the offset after it, or why there is none. The control is a mask for codes 10 and 11, and 0 where the gate names one qubit; the
-// second target is the target again where there is one only.
-#[derive(Clone, Copy)]
-pub enum GateRead {
-    Gate {
-        code: u32,
-        control: u32,
-        target: u32,
-        second: u32,
-        next: usize,
-    },
-    Refused(Refusal),
+// A gate of a list. The control is a mask for Toffoli and Fredkin, and 0 where the gate names one qubit; the second target is the target again
+// where there is one only.
+#[derive(Clone, Copy, PartialEq, Eq, Debug)]
+pub struct Gate {
+    pub code: Code,
+    pub control: u32,
+    pub target: u32,
+    pub second: u32,
 }
 
 // ---- limits
@@ -71,97 +70,19 @@ pub fn base_limits() -> Limits
     }
 }
 
-// ---- numbers
+// ---- tests
 
-// A last group of 0 stands only alone: it ends no number of several groups.
-fn last_group(at: usize, group: u32, value: u32, next: usize) -> NumberRead
-    ensures { result ≡ number_answer (last_group at group value next) }
-{
-    if group == 0 {
-        NumberRead::Refused(Refusal {
-            number: NOT_SHORTEST,
-            offset: at,
-        })
-    } else {
-        NumberRead::Number { value, next }
-    }
-}
-
-// The number that starts at `at`: one to three groups of seven bits, lowest first, in the shortest form.
-pub fn read_number(bytes: &[u8], at: usize) -> NumberRead
-    ensures { result ≡ number_answer (number bytes.now at) }
-{
-    let early = NumberRead::Refused(Refusal {
-        number: ENDS_EARLY,
-        offset: at,
-    });
-    if bytes.len() <= at {
-        return early;
-    }
-    let x = bytes[at] as u32;
-    if x < 128 {
-        return NumberRead::Number {
-            value: x,
-            next: at + 1,
-        };
-    }
-    if bytes.len() <= at + 1 {
-        return early;
-    }
-    let y = bytes[at + 1] as u32;
-    if y < 128 {
-        return last_group(at, y, x % 128 + y * 128, at + 2);
-    }
-    if bytes.len() <= at + 2 {
-        return early;
-    }
-    let z = bytes[at + 2] as u32;
-    if z < 128 {
-        return last_group(at, z, x % 128 + y % 128 * 128 + z * 16384, at + 3);
-    }
-    NumberRead::Refused(Refusal {
-        number: NOT_SHORTEST,
-        offset: at,
-    })
-}
-
-// ---- qubits and masks
-
-// The bits of a number; a shift by so many or more is an error.
-const BITS: u32 = 32;
-
-// A number that was read at `at`, if it passes its test; else the test's refusal.
-fn kept(passes: bool, number: u32, at: usize, value: u32, next: usize) -> NumberRead
-    ensures { result ≡ kept passes number at value next }
+// A number that starts at `start`, if it passes its test; else the test's refusal.
+fn kept(passes: bool, fault: Fault, start: usize, value: u32) -> Result<u32, Refusal>
+    ensures { result ≡ kept passes fault start value }
 {
     if passes {
-        NumberRead::Number { value, next }
+        Ok(value)
     } else {
-        NumberRead::Refused(Refusal { number, offset: at })
-    }
-}
-
-// A qubit, below the list's qubit count.
-fn read_qubit(bytes: &[u8], at: usize, qubits: u32) -> NumberRead
-    ensures { result ≡ number_answer (qubit qubits bytes.now at) }
-{
-    match read_number(bytes, at) {
-        NumberRead::Refused(why) => NumberRead::Refused(why),
-        NumberRead::Number { value, next } => {
-            kept(value < qubits, NO_SUCH_QUBIT, at, value, next)
-        }
-    }
-}
-
-// The target of a gate with one control: another qubit.
-fn read_target(bytes: &[u8], at: usize, qubits: u32, control: u32) -> NumberRead
-    ensures { result ≡ number_answer (target_qubit qubits control bytes.now at) }
-{
-    match read_qubit(bytes, at, qubits) {
-        NumberRead::Refused(why) => NumberRead::Refused(why),
-        NumberRead::Number { value, next } => {
-            kept(value != control, CONTROL_IS_TARGET, at, value, next)
-        }
+        Err(Refusal {
+            fault,
+            offset: start,
+        })
     }
 }
 
@@ -169,189 +90,208 @@ fn read_target(bytes: &[u8], at: usize, qubits: u32, control: u32) -> NumberRead
 fn in_mask(mask: u32, q: u32) -> bool
     ensures { result ≡ in_mask mask q }
 {
-    if q < BITS {
-        return (mask >> q) % 2 == 1;
-    }
-    false
+    mask.checked_shr(q).unwrap_or(0) % 2 == 1
 }
 
 // Whether no bit of the mask is at or past n.
 fn below_count(mask: u32, n: u32) -> bool
     ensures { result ≡ ltb mask (2 ^ n) }
 {
-    if n < BITS {
-        return (mask >> n) == 0;
-    }
-    true
+    mask.checked_shr(n).unwrap_or(0) == 0
 }
 
-// A mask of qubits below the list's qubit count.
-fn read_mask_below(bytes: &[u8], at: usize, qubits: u32) -> NumberRead
-    ensures { result ≡ number_answer (mask_below qubits bytes.now at) }
-{
-    match read_number(bytes, at) {
-        NumberRead::Refused(why) => NumberRead::Refused(why),
-        NumberRead::Number { value, next } => {
-            kept(below_count(value, qubits), NO_SUCH_QUBIT, at, value, next)
+// ---- reading
+
+// A list's bytes, borrowed, and the offset that is read next. Where it stands after a refusal is left open.
+#[derive(Clone, Copy)]
+pub struct Reader<'a> {
+    pub bytes: &'a [u8],
+    pub at: usize,
+}
+
+impl<'a> Reader<'a> {
+    // The reader of a list that stands at `at`.
+    pub fn new(bytes: &'a [u8], at: usize) -> Reader<'a>
+        ensures { result ≡ reader_at bytes.entry at }
+    {
+        Reader { bytes, at }
+    }
+
+    // The next byte of the number that starts at `start`.
+    fn byte(&mut self, start: usize) -> Result<u8, Refusal>
+        ensures { Says (λ v. v) (byte start self.old.bytes.now self.old.at) self.old self.new result }
+    {
+        if self.at < self.bytes.len() {
+            let byte = self.bytes[self.at];
+            self.at += 1;
+            Ok(byte)
+        } else {
+            Err(Refusal {
+                fault: Fault::EndsEarly,
+                offset: start,
+            })
         }
     }
-}
 
-// A mask of at least so many controls.
-fn read_mask(bytes: &[u8], at: usize, qubits: u32, least: u32) -> NumberRead
-    ensures { result ≡ number_answer (mask qubits least bytes.now at) }
-{
-    match read_mask_below(bytes, at, qubits) {
-        NumberRead::Refused(why) => NumberRead::Refused(why),
-        NumberRead::Number { value, next } => {
-            kept(
-                least <= u32::count_ones(value),
-                TOO_FEW_CONTROLS,
-                at,
-                value,
-                next,
-            )
+    // The number that stands next: one to three groups of seven bits, lowest first, in the shortest form.
+    pub fn number(&mut self) -> Result<u32, Refusal>
+        ensures { Says (λ v. v) (number self.old.bytes.now self.old.at) self.old self.new result }
+    {
+        let start = self.at;
+        let x = u32::from(self.byte(start)?);
+        if x < 128 {
+            return Ok(x);
         }
-    }
-}
-
-// A target that is not in the mask.
-fn read_free(bytes: &[u8], at: usize, qubits: u32, mask: u32) -> NumberRead
-    ensures { result ≡ number_answer (free_qubit qubits mask bytes.now at) }
-{
-    match read_qubit(bytes, at, qubits) {
-        NumberRead::Refused(why) => NumberRead::Refused(why),
-        NumberRead::Number { value, next } => {
-            kept(!in_mask(mask, value), CONTROL_IS_TARGET, at, value, next)
+        let y = u32::from(self.byte(start)?);
+        if y < 128 {
+            return kept(y != 0, Fault::NotShortest, start, x % 128 + y * 128);
         }
+        let z = u32::from(self.byte(start)?);
+        let value = x % 128 + y % 128 * 128 + z * 16384;
+        kept(z != 0 && z < 128, Fault::NotShortest, start, value)
     }
-}
 
-// A second target, which is neither in the mask nor the first.
-fn read_second(bytes: &[u8], at: usize, qubits: u32, mask: u32, first: u32) -> NumberRead
-    ensures { result ≡ number_answer (second_qubit qubits mask first bytes.now at) }
-{
-    match read_free(bytes, at, qubits, mask) {
-        NumberRead::Refused(why) => NumberRead::Refused(why),
-        NumberRead::Number { value, next } => {
-            kept(value != first, CONTROL_IS_TARGET, at, value, next)
-        }
+    // A qubit, below the list's qubit count.
+    #[tactic(auto, unfolding(crate::specs::Reading::qubit))]
+    fn qubit(&mut self, qubits: u32) -> Result<u32, Refusal>
+        ensures { Says (λ v. v) (qubit qubits self.old.bytes.now self.old.at) self.old self.new result }
+    {
+        let start = self.at;
+        let value = self.number()?;
+        kept(value < qubits, Fault::NoSuchQubit, start, value)
     }
-}
 
-// ---- gates
+    // The target of a gate with one control: another qubit.
+    #[tactic(auto, unfolding(crate::specs::Reading::target_qubit))]
+    fn target(&mut self, qubits: u32, control: u32) -> Result<u32, Refusal>
+        ensures { Says (λ v. v) (target_qubit qubits control self.old.bytes.now self.old.at) self.old self.new result }
+    {
+        let start = self.at;
+        let value = self.qubit(qubits)?;
+        kept(value != control, Fault::ControlIsTarget, start, value)
+    }
 
-// The gate of this code and control or mask, by what was read as its only target.
-fn place(code: u32, control: u32, target: NumberRead) -> GateRead
-    ensures { result ≡ placed code control target }
-{
-    match target {
-        NumberRead::Refused(why) => GateRead::Refused(why),
-        NumberRead::Number { value, next } => GateRead::Gate {
+    // A mask of qubits below the list's qubit count.
+    #[tactic(auto, unfolding(crate::specs::Reading::mask_below))]
+    fn mask_below(&mut self, qubits: u32) -> Result<u32, Refusal>
+        ensures { Says (λ v. v) (mask_below qubits self.old.bytes.now self.old.at) self.old self.new result }
+    {
+        let start = self.at;
+        let value = self.number()?;
+        kept(below_count(value, qubits), Fault::NoSuchQubit, start, value)
+    }
+
+    // A mask of at least so many controls.
+    #[tactic(auto, unfolding(crate::specs::Reading::mask))]
+    fn mask(&mut self, qubits: u32, least: u32) -> Result<u32, Refusal>
+        ensures { Says (λ v. v) (mask qubits least self.old.bytes.now self.old.at) self.old self.new result }
+    {
+        let start = self.at;
+        let value = self.mask_below(qubits)?;
+        kept(
+            least <= value.count_ones(),
+            Fault::TooFewControls,
+            start,
+            value,
+        )
+    }
+
+    // A target that is not in the mask.
+    #[tactic(auto, unfolding(crate::specs::Reading::free_qubit))]
+    fn free(&mut self, qubits: u32, mask: u32) -> Result<u32, Refusal>
+        ensures { Says (λ v. v) (free_qubit qubits mask self.old.bytes.now self.old.at) self.old self.new result }
+    {
+        let start = self.at;
+        let value = self.qubit(qubits)?;
+        kept(!in_mask(mask, value), Fault::ControlIsTarget, start, value)
+    }
+
+    // A second target, which is neither in the mask nor the first.
+    #[tactic(auto, unfolding(crate::specs::Reading::second_qubit))]
+    fn second(&mut self, qubits: u32, mask: u32, first: u32) -> Result<u32, Refusal>
+        ensures { Says (λ v. v) (second_qubit qubits mask first self.old.bytes.now self.old.at) self.old self.new result }
+    {
+        let start = self.at;
+        let value = self.free(qubits, mask)?;
+        kept(value != first, Fault::ControlIsTarget, start, value)
+    }
+
+    // A gate of a control and a target, after its code.
+    fn controlled(&mut self, qubits: u32, code: Code) -> Result<Gate, Refusal>
+        ensures { Says (λ g. g) (controlled qubits code self.old.bytes.now self.old.at) self.old self.new result }
+    {
+        let control = self.qubit(qubits)?;
+        let target = self.target(qubits, control)?;
+        Ok(Gate {
             code,
             control,
-            target: value,
-            second: value,
-            next,
-        },
+            target,
+            second: target,
+        })
     }
-}
 
-// The gate of this code, mask and first target, by what was read as its second.
-fn swap(code: u32, mask: u32, first: u32, second: NumberRead) -> GateRead
-    ensures { result ≡ swapped code mask first second }
-{
-    match second {
-        NumberRead::Refused(why) => GateRead::Refused(why),
-        NumberRead::Number { value, next } => GateRead::Gate {
+    // A gate of a mask of controls and one target, after its code.
+    fn masked(&mut self, qubits: u32, code: Code, least: u32) -> Result<Gate, Refusal>
+        ensures { Says (λ g. g) (masked qubits code least self.old.bytes.now self.old.at) self.old self.new result }
+    {
+        let control = self.mask(qubits, least)?;
+        let target = self.free(qubits, control)?;
+        Ok(Gate {
             code,
-            control: mask,
+            control,
+            target,
+            second: target,
+        })
+    }
+
+    // A gate of a mask of controls and two targets, after its code.
+    fn targets(&mut self, qubits: u32, code: Code, least: u32) -> Result<Gate, Refusal>
+        ensures { Says (λ g. g) (exchanging qubits code least self.old.bytes.now self.old.at) self.old self.new result }
+    {
+        let control = self.mask(qubits, least)?;
+        let first = self.free(qubits, control)?;
+        let second = self.second(qubits, control, first)?;
+        Ok(Gate {
+            code,
+            control,
             target: first,
-            second: value,
-            next,
-        },
+            second,
+        })
     }
-}
 
-// A gate of a control and a target, after its code.
-fn read_controlled(bytes: &[u8], at: usize, qubits: u32, code: u32) -> GateRead
-    ensures { result ≡ controlled code qubits bytes.now (number_answer (qubit qubits bytes.now at)) }
-{
-    match read_qubit(bytes, at, qubits) {
-        NumberRead::Refused(why) => GateRead::Refused(why),
-        NumberRead::Number { value, next } => {
-            place(code, value, read_target(bytes, next, qubits, value))
-        }
-    }
-}
-
-// Two targets, after the mask.
-fn read_targets(bytes: &[u8], at: usize, qubits: u32, code: u32, mask: u32) -> GateRead
-    ensures { result ≡ exchanging code mask qubits bytes.now (number_answer (free_qubit qubits mask bytes.now at)) }
-{
-    match read_free(bytes, at, qubits, mask) {
-        NumberRead::Refused(why) => GateRead::Refused(why),
-        NumberRead::Number { value, next } => {
-            swap(
-                code,
-                mask,
-                value,
-                read_second(bytes, next, qubits, mask, value),
-            )
-        }
-    }
-}
-
-// A mask of controls and one target or two, after the code.
-fn read_masked(
-    bytes: &[u8],
-    at: usize,
-    qubits: u32,
-    code: u32,
-    least: u32,
-    targets: u32,
-) -> GateRead
-    ensures { result ≡ masked code targets qubits bytes.now (number_answer (mask qubits least bytes.now at)) }
-{
-    match read_mask(bytes, at, qubits, least) {
-        NumberRead::Refused(why) => GateRead::Refused(why),
-        NumberRead::Number { value, next } => {
-            if targets == 2 {
-                return read_targets(bytes, next, qubits, code, value);
+    // What follows the code of a gate.
+    fn operands(&mut self, qubits: u32, code: Code, operands: Operands) -> Result<Gate, Refusal>
+        ensures { Says (λ g. g) (operands_data qubits code operands self.old.bytes.now self.old.at) self.old self.new result }
+    {
+        match operands {
+            Operands::Qubit => {
+                let target = self.qubit(qubits)?;
+                Ok(Gate {
+                    code,
+                    control: 0,
+                    target,
+                    second: target,
+                })
             }
-            place(code, value, read_free(bytes, next, qubits, value))
+            Operands::Controlled => self.controlled(qubits, code),
+            Operands::Masked { least, targets: 2 } => self.targets(qubits, code, least),
+            Operands::Masked { least, targets: _ } => self.masked(qubits, code, least),
         }
     }
-}
 
-// What follows the code of a gate.
-fn read_operands(bytes: &[u8], at: usize, qubits: u32, code: u32, operands: Operands) -> GateRead
-    ensures { result ≡ operands_answer code qubits bytes.now at operands }
-{
-    match operands {
-        Operands::Qubit => place(code, 0, read_qubit(bytes, at, qubits)),
-        Operands::Controlled => read_controlled(bytes, at, qubits, code),
-        Operands::Masked { least, targets } => {
-            read_masked(bytes, at, qubits, code, least, targets)
-        }
-    }
-}
-
-// The gate that starts at `at`, in a list of so many qubits.
-pub fn read_gate(bytes: &[u8], at: usize, qubits: u32) -> GateRead
-    ensures { result ≡ gate_answer (gate qubits bytes.now at) }
-{
-    match read_number(bytes, at) {
-        NumberRead::Refused(why) => GateRead::Refused(why),
-        NumberRead::Number { value, next } => match gates::decide(value) {
-            Decision::Unknown => GateRead::Refused(Refusal {
-                number: UNKNOWN_CODE,
-                offset: at,
+    // The gate that stands next, in a list of so many qubits.
+    #[tactic(auto, unfolding(crate::specs::Reading::gate))]
+    pub fn gate(&mut self, qubits: u32) -> Result<Gate, Refusal>
+        ensures { Says gate_data (gate qubits self.old.bytes.now self.old.at) self.old self.new result }
+    {
+        let start = self.at;
+        let number = self.number()?;
+        match Code::try_from(number) {
+            Ok(code) => self.operands(qubits, code, code.rule().operands),
+            Err(UnknownCode) => Err(Refusal {
+                fault: Fault::UnknownCode,
+                offset: start,
             }),
-            Decision::Known(rule) => {
-                let operands = rule.operands;
-                read_operands(bytes, next, qubits, value, operands)
-            }
-        },
+        }
     }
 }

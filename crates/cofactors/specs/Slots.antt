@@ -1,4 +1,4 @@
--- The store in the first slots of lent columns, and the way down in it. Definitions only; their laws are in proofs/Children.antt and in places.
+-- The store in the first slots of lent columns, and the way down in it. Definitions only; the laws of the way down are in places.
 use Rattle.std.specs.Prelude.{◌≡◌, Bool, cond, List, [], ◌∷◌, ℕ, zero, suc, ◌/◌, ◌%◌, ◌^◌, ◌<◌, eqb, length, get_or}
 use Rattle.algebra.specs.declared.Entry.{Entry}
 use Rattle.algebra.specs.Entry.{𝟘}
@@ -10,10 +10,10 @@ use Rattle.uniques.specs.UniqueTable.{nodes_in}
 -- the nodes and the values in so many slots from 0 up
 abbrev pub store_in : ℕ → ℕ → Columns → Store Entry
 store_in nodes values cols =
-    holding (nodes_in nodes cols.level cols.low cols.high) (entries_of cols.a cols.b cols.c cols.d values)
+    holding (nodes_in nodes cols.level cols.low cols.high) (entries_of cols values)
 
 abbrev pub value_at : Columns → ℕ → Entry
-value_at cols j = entry_of cols.a cols.b cols.c cols.d j
+value_at cols j = entry_of cols j
 
 -- "A diagram gives, for a row and a column, the value reached from its root"
 abbrev pub given : Store Entry → Ref → Matrix

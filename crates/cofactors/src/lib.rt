@@ -7,6 +7,8 @@
 ghost use Rattle.std.specs.Prelude.{◌≡◌, true, false};
 ghost use Rattle.cofactors.specs.Slots.{InNodes, cofactor};
 
+use stores::View;
+
 // A reference's children by the bit of a level.
 #[derive(Clone, Copy)]
 pub struct Sides {
@@ -15,20 +17,20 @@ pub struct Sides {
 }
 
 // The children of r by the bit of a level: r itself where it does not ask for it.
-pub fn look(level: &[u32], low: &[u32], high: &[u32], r: u32, asked: u32) -> Sides
-    requires { InNodes level.now low.now high.now r }
-    ensures low { result.low ≡ cofactor level.now low.now high.now asked false r }
-    ensures high { result.high ≡ cofactor level.now low.now high.now asked true r }
+pub fn look(store: &View<'_>, r: u32, asked: u32) -> Sides
+    requires { InNodes store.now.level.now store.now.low.now store.now.high.now r }
+    ensures low { result.low ≡ cofactor store.now.level.now store.now.low.now store.now.high.now asked false r }
+    ensures high { result.high ≡ cofactor store.now.level.now store.now.low.now store.now.high.now asked true r }
 {
     if r % 2 == 0 {
         return Sides { low: r, high: r };
     }
     let i = (r / 2) as usize;
-    if level[i] != asked {
+    if store.level[i] != asked {
         return Sides { low: r, high: r };
     }
     Sides {
-        low: low[i],
-        high: high[i],
+        low: store.low[i],
+        high: store.high[i],
     }
 }

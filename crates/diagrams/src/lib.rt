@@ -10,14 +10,5 @@ use algebra::Entry;
 pub fn same_entry(x: Entry, y: Entry) -> bool
     ensures { result ≡ same_entry x y }
 {
-    if x.a != y.a {
-        return false;
-    }
-    if x.b != y.b {
-        return false;
-    }
-    if x.c != y.c {
-        return false;
-    }
-    x.d == y.d
+    x == y
 }

@@ -9,6 +9,7 @@ use borrow.Author.Tests.{le-leb, le-ltb}
 use lib.ListN.{length}
 use lib.Pow.{pow_mono}
 use Rattle.gates.specs.Gate.{Gate}
+use Rattle.circuits.specs.declared.Fault.{Fault}
 use Rattle.circuits.specs.declared.Limits.{Limits}
 use Rattle.circuits.specs.Refusals.{bad_qubit_count, bad_gate_count, base_limits}
 use Rattle.circuits.specs.Reading.{read, count, Circuit, body, list, decoded}
@@ -32,7 +33,7 @@ spelled_stretch s bytes = record {
 
 -- ---- what is spelled there is read
 
-module _ (low high refusal : ℕ) (s : List ℕ) (at : ℕ) {v next : ℕ} where
+module _ (low high : ℕ) (refusal : Fault) (s : List ℕ) (at : ℕ) {v next : ℕ} where
   count_reads : low ≤ v → v ≤ high → v < 2097152 → Spelled s at (number_bytes v) next → count low high refusal s at ≡ read v next
   unfolding count
   count_reads low≤ ≤high small e = rw (number_reads s at e small, le-leb low v low≤, le-leb v high ≤high)

@@ -2,7 +2,7 @@
 -- Assumes nothing.
 use mathlib.Core.Path.{◌≡◌, refl, sym, ◌∙◌, ap}
 use mathlib.Core.List.{List, [], ◌∷◌}
-use Prim.Native.Nat.{ℕ, suc, ◌+◌, ◌-◌, ◌*◌, ◌/◌, ◌%◌, ◌^◌, ◌<◌, ◌≤◌}
+use Prim.Native.Nat.{ℕ, suc, ◌+◌, ◌-◌, ◌*◌, ◌/◌, ◌%◌, ◌^◌, ◌<◌, ◌≤◌, min, max}
 use native.Mathlib.Nat.{pow-suc, not-le_of_lt, le_trans, lt_of_not-le}
 use native.Mathlib.Decide.{dec_lt, dec_le}
 use native.Mathlib.Omega.{arith}
@@ -33,14 +33,25 @@ module _ (v low high : ℕ) (from : 2 ^ low ≤ v) (below : v < 2 ^ high) (word 
 
 -- ---- the group count
 
-pub groups_zero : groups 0 ≡ 1
+groups_zero : groups 0 ≡ 1
 unfolding groups
 groups_zero = refl
 
 module _ (v : ℕ) where
-  pub groups_of : 0 < v → groups v ≡ (32 - count_leading_zeros 32 v + 6) / 7
+  groups_of : 0 < v → groups v ≡ (32 - count_leading_zeros 32 v + 6) / 7
   unfolding groups
   groups_of more = rw (ne_eqb v 0 (omega arith))
+
+  -- the significant bits, seven to a group: none for 0, and otherwise some
+  pub groups_rounded : v < 2 ^ 32 → let bits = 32 - count_leading_zeros 32 v in max (bits / 7 + min 1 (bits % 7)) 1 ≡ groups v
+  unfolding count_leading_zeros
+  groups_rounded word = elim (dec_lt 0 v) [
+    | yes more ↦ let bits = significant v 0 32 more word word in omega (arith, groups_of more, bits.0, bits.1)
+    | no none ↦
+        let is : v ≡ 0 = omega arith in
+        let all : count_leading_zeros 32 0 ≡ 32 = refl in
+        omega (arith, ap groups is, groups_zero, ap (count_leading_zeros 32) is, all)
+  ]
 
   one_group : v < 128 → groups v ≡ 1
   one_group small = elim (dec_lt 0 v) [

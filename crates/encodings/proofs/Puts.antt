@@ -1,16 +1,16 @@
 -- Bytes written into a buffer: one run of them after another or before another is the two joined; from the front on; a number, group by
 -- group.
 -- Assumes nothing.
-use mathlib.Core.Path.{◌≡◌, refl, sym, ap, ap₂, ◌∙◌, ◌≡⟨◌⟩◌, ◌∎}
-use mathlib.Core.List.{List, [], ◌∷◌, ◌++◌}
-use Prim.Native.Nat.{ℕ, suc, ◌+◌, ◌-◌, ◌/◌, ◌%◌, ◌≤◌, ◌<◌}
+use mathlib.Core.Path.{◌≡◌, refl, sym, ap, ap₂, subst, ◌∙◌, ◌≡⟨◌⟩◌, ◌∎}
+use mathlib.Core.List.{List, [], ◌∷◌, ◌++◌, append_assoc}
+use Prim.Native.Nat.{ℕ, suc, ◌+◌, ◌/◌, ◌%◌, ◌≤◌, ◌<◌}
 use native.Mathlib.Nat.{add-zero, zero-add}
-use native.Mathlib.Numerals.{add-one}
 use native.Mathlib.Omega.{arith}
-use lib.ListN.{length, set, drop, length-append, length-set}
+use lib.ListN.{length, set, drop, length-append}
 use lib.Seq.{sets, sets-eq, set_comm, length-sets}
 use Rattle.encodings.specs.Encoding.{groups, number_bytes}
-use Rattle.encodings.specs.Writing.{Put}
+use Rattle.encodings.specs.declared.Writer.{Writer}
+use Rattle.encodings.specs.Writing.{Put, Wrote}
 use Rattle.encodings.proofs.Numbers.{one_byte}
 use Rattle.encodings.proofs.Groups.{groups_length, number_more, groups_more, some_group, last_group, further_group}
 
@@ -35,6 +35,11 @@ put_then {s} {t} {before} {between} {after} {at} {next} {last} p q = record {
 
 pub put_length : {s before after : List ℕ} {at next : ℕ} → Put s at before after next → length after ≡ length before
 put_length {s} {before} {after} {at} p = ap length p.stored ∙ length-sets before at s
+
+-- where there is room for both, there is room for the second
+pub put_room : {s before between : List ℕ} {at next : ℕ} (t : List ℕ) → Put s at before between next → at + length (s ++ t) ≤ length before
+    → next + length t ≤ length between
+put_room {s} t p room = omega (arith, put_length p, p.place, length-append s t)
 
 -- ---- one run before another
 
@@ -64,46 +69,54 @@ sets_over s l room = sets-eq s l 0 (omega arith) ∙ ap (λ (k : ℕ). s ++ drop
 
 -- ---- a number, group by group
 
--- the lowest groups of v are written from `at` on; those of `rest`, of which `left` are left, go to `place`
-pub record Writing (v at : ℕ) (before buffer : List ℕ) (rest place left : ℕ) : Type 0 where
+-- the lowest groups of v are written, and those of `rest` are left; `group` counts from 1 on
+pub record Writing (v : ℕ) (old now : Writer) (rest group : ℕ) : Type 0 where
+  pub done : List ℕ
+  pub wrote : Wrote done old now
+  pub all : done ++ number_bytes rest ≡ number_bytes v
   pub small : rest < 2097152
-  pub counted : left ≡ groups rest
-  pub long : length buffer ≡ length before
-  pub end : place + length (number_bytes rest) ≡ at + length (number_bytes v)
-  pub to_write : sets buffer place (number_bytes rest) ≡ sets before at (number_bytes v)
+  pub counted : groups rest + group ≡ groups v + 1
+  pub same_buffer : now.buffer.ghost_name ≡ old.buffer.ghost_name
 
-module _ {v at : ℕ} {before : List ℕ} where
-  pub writing_none : v < 2097152 → {left : ℕ} → left ≡ groups v → Writing v at before before v at left
-  writing_none small counted = record { small = small; counted = counted; long = refl; end = refl; to_write = refl }
+pub writing_none : (v : ℕ) (w : Writer) → v < 2097152 → Writing v w w v 1
+writing_none v w small = record {
+  done = [];
+  wrote = record { place = omega arith; stored = refl };
+  all = refl;
+  small = small;
+  counted = refl;
+  same_buffer = refl;
+}
 
-  module _ {buffer : List ℕ} {rest place left : ℕ} (w : Writing v at before buffer rest place left) where
-    -- there is room for the next group
-    pub writing_room : at + length (number_bytes v) ≤ length before → place < length buffer
-    writing_room room = omega (arith, w.long, w.end, some_group rest w.small, groups_length rest w.small)
+module _ {v : ℕ} {old now : Writer} {rest group : ℕ} (w : Writing v old now rest group) where
+  -- there is room for the next group
+  pub writing_room : old.at + length (number_bytes v) ≤ length old.buffer.now → now.at < length now.buffer.now
+  writing_room room =
+      let left = length-append w.done (number_bytes rest) in
+      omega (arith, put_length w.wrote, w.wrote.place, ap length w.all, left, some_group rest w.small, groups_length rest w.small)
 
-    pub writing_more : 1 < left → Writing v at before (set buffer place (rest % 128 + 128)) (rest / 128) (place + 1) (left - 1)
-    writing_more more =
+  module _ (next : Writer) where
+    pub writing_more : group < groups v → Wrote ((rest % 128 + 128) ∷ []) now next → next.buffer.ghost_name ≡ now.buffer.ghost_name
+        → Writing v old next (rest / 128) (group + 1)
+    writing_more more wrote same =
         let large = further_group rest w.small (omega (arith, w.counted)) in
         let byte = rest % 128 + 128 in
-        let bytes : number_bytes rest ≡ byte ∷ number_bytes (rest / 128) = number_more rest large w.small in
         record {
+          done = w.done ++ (byte ∷ []);
+          wrote = put_then w.wrote wrote;
+          all =
+              append_assoc w.done (byte ∷ []) (number_bytes (rest / 128))
+              ∙ ap (λ (l : List ℕ). w.done ++ l) (sym (number_more rest large w.small)) ∙ w.all;
           small = omega (arith, w.small);
           counted = omega (arith, w.counted, groups_more rest large w.small);
-          long = length-set buffer place byte ∙ w.long;
-          end = omega (arith, w.end, ap length bytes);
-          to_write =
-              sets (set buffer place byte) (place + 1) (number_bytes (rest / 128))
-              ≡⟨ ap (λ (k : ℕ). sets (set buffer place byte) k (number_bytes (rest / 128))) (add-one place) ⟩
-              sets buffer place (byte ∷ number_bytes (rest / 128)) ≡⟨ ap (sets buffer place) (sym bytes) ⟩
-              sets buffer place (number_bytes rest) ≡⟨ w.to_write ⟩
-              sets before at (number_bytes v) ∎;
+          same_buffer = same ∙ w.same_buffer;
         }
 
-    module _ (last : left ≤ 1) where
-      pub writing_last : rest < 128
-      writing_last = last_group rest w.small (omega (arith, w.counted))
+  module _ (last : groups v ≤ group) where
+    pub writing_last : rest < 128
+    writing_last = last_group rest w.small (omega (arith, w.counted))
 
-      pub writing_all : Put (number_bytes v) at before (set buffer place rest) (place + 1)
-      writing_all =
-          let bytes = one_byte rest writing_last in
-          record { place = omega (arith, w.end, ap length bytes); stored = ap (sets buffer place) (sym bytes) ∙ w.to_write }
+    pub writing_all : (next : Writer) → Wrote (rest ∷ []) now next → Wrote (number_bytes v) old next
+    writing_all next wrote =
+        let last : w.done ++ (rest ∷ []) ≡ number_bytes v = ap (λ (l : List ℕ). w.done ++ l) (sym (one_byte rest writing_last)) ∙ w.all in
+        subst (λ (l : List ℕ). Wrote l old next) last (put_then w.wrote wrote)

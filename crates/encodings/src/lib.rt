@@ -1,11 +1,9 @@
-// The bytes of a list: a list is accepted exactly if it is the encoding of some gates within the limits (laws), and the writer of a number.
+// The bytes of a list: a list is accepted exactly if it is the encoding of some gates within the limits (laws), and the writer of numbers.
 #![tactic(auto)]
 
-ghost use Rattle.std.specs.Prelude.{◌≡◌, ◌+◌, ◌<◌, ◌≤◌, length};
+ghost use Rattle.std.specs.Prelude.{◌≡◌, [], ◌∷◌, ◌+◌, ◌<◌, ◌≤◌, length};
 ghost use Rattle.encodings.specs.Encoding.{groups, number_bytes};
-ghost use Rattle.encodings.specs.Writing.{Put};
-
-const WORD_BITS: u32 = 32;
+ghost use Rattle.encodings.specs.Writing.{Wrote};
 
 const GROUP_BITS: u32 = 7;
 
@@ -19,28 +17,40 @@ const MORE: u32 = 128;
 fn group_count(v: u32) -> u32
     ensures { result ≡ groups v }
 {
-    if v == 0 {
-        return 1;
-    }
-    let significant = WORD_BITS - u32::leading_zeros(v);
-    (significant + GROUP_BITS - 1) / GROUP_BITS
+    let significant = u32::BITS - v.leading_zeros();
+    u32::max(significant.div_ceil(GROUP_BITS), 1)
 }
 
-// Writes a number at a place of the buffer, in the shortest form, and returns the place after it.
-pub fn write_number(v: u32, buffer: &mut [u8], at: usize) -> usize
-    requires v_bound { v < 2097152 }
-    requires v_in_bounds { at + length (number_bytes v) ≤ length buffer.old }
-    ensures { Put (number_bytes v) at buffer.old buffer.new result }
-{
-    let mut rest = v;
-    let mut place = at;
-    let mut left = group_count(v);
-    while 1 < left {
-        buffer[place] = (rest % GROUP + MORE) as u8;
-        rest /= GROUP;
-        place += 1;
-        left -= 1;
+// A buffer, and the place in it that is written next.
+#[derive(Drop)]
+pub struct Writer<'a> {
+    pub buffer: &'a mut [u8],
+    pub at: usize,
+}
+
+impl Writer<'_> {
+    // Writes a byte.
+    fn byte(&mut self, value: u8)
+        requires { self.old.at < length self.old.buffer.now }
+        ensures same_buffer { self.new.buffer.ghost_name ≡ self.old.buffer.ghost_name }
+        ensures wrote { Wrote (value ∷ []) self.old self.new }
+    {
+        self.buffer[self.at] = value;
+        self.at += 1;
     }
-    buffer[place] = rest as u8;
-    place + 1
+
+    // Writes a number, in the shortest form.
+    pub fn number(&mut self, v: u32)
+        requires v_bound { v < 2097152 }
+        requires v_in_bounds { self.old.at + length (number_bytes v) ≤ length self.old.buffer.now }
+        ensures same_buffer { self.new.buffer.ghost_name ≡ self.old.buffer.ghost_name }
+        ensures wrote { Wrote (number_bytes v) self.old self.new }
+    {
+        let mut rest = v;
+        for _group in 1..group_count(v) {
+            self.byte((rest % GROUP + MORE) as u8);
+            rest /= GROUP;
+        }
+        self.byte(rest as u8);
+    }
 }

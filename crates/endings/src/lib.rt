@@ -2,63 +2,43 @@
 #![tactic(auto)]
 
 ghost use Rattle.std.specs.Prelude.{◌≡◌};
-ghost use Rattle.stores.specs.Columns.{columns};
+ghost use Rattle.stores.specs.Columns.{viewed};
 ghost use Rattle.endings.specs.Ending.{kept, Readable, report_of};
 
-use miters::Report;
+use miters::{Refusal, Report};
 use plans::Used;
-use runs::End;
+use runs::Finish;
+use stores::View;
 
-// How much of the first store is kept after a run.
-pub fn kept(ended: End) -> Used
+// How much of the first store is kept after a run: nothing where it was refused.
+pub fn kept(ended: Result<Finish, Refusal>) -> Used
     ensures { result ≡ kept ended }
 {
     match ended {
-        End::Stopped(_why) => Used {
+        Ok(finish) => finish.used,
+        Err(_) => Used {
             nodes: 0,
             values: 0,
         },
-        End::Done {
-            steps: _steps,
-            exponent: _exponent,
-            used,
-        } => used,
     }
 }
 
 // The report of a run, with the verdict read off the first store.
-pub fn report(
-    level: &[u32],
-    low: &[u32],
-    high: &[u32],
-    a: &[i32],
-    b: &[i32],
-    c: &[i32],
-    d: &[i32],
-    n: u32,
-    ended: End,
-) -> Report
-    requires { Readable n (columns level.now low.now high.now a.now b.now c.now d.now) ended }
-    ensures { result ≡ report_of n
-        (columns level.now low.now high.now a.now b.now c.now d.now) ended }
+pub fn report(first: &View<'_>, n: u32, ended: Result<Finish, Refusal>) -> Report
+    requires { Readable n (viewed first.now) ended }
+    ensures { result ≡ report_of n (viewed first.now) ended }
 {
     match ended {
-        End::Stopped(why) => miters::refused(why),
-        End::Done {
-            steps,
-            exponent,
-            used,
-        } => {
-            let nodes = used.nodes;
-            let values = used.values;
-            let verdict = searches::read_verdict(level, low, high, a, b, c, d, nodes, values, n);
+        Ok(finish) => {
+            let Used { nodes, values } = finish.used;
             Report {
-                verdict,
-                exponent,
-                steps,
+                verdict: searches::read_verdict(first, nodes, values, n),
+                exponent: finish.exponent,
+                steps: finish.steps,
                 nodes,
                 values,
             }
         }
+        Err(why) => miters::refused(why),
     }
 }

@@ -1,5 +1,5 @@
 -- A report, and what a writer answers, as numbers. Definitions only.
-use Rattle.std.specs.Prelude.{◌≡◌, List, [], ◌∷◌, ◌++◌, ℕ, ℤ}
+use Rattle.std.specs.Prelude.{◌≡◌, List, [], ◌∷◌, ◌++◌, ℕ, ℤ, Result, Ok, Err}
 use Rattle.algebra.specs.declared.Entry.{Entry}
 use Rattle.algebra.specs.Entry.{𝟘}
 use Rattle.stores.specs.Columns.{over}
@@ -8,15 +8,14 @@ use Rattle.miters.specs.declared.Refusal.TheVariants.{Call, Byte, Step}
 use Rattle.miters.specs.declared.Verdict.{Verdict}
 use Rattle.miters.specs.declared.Verdict.TheVariants.{Equal, Different, Refused}
 use Rattle.miters.specs.declared.Report.{Report}
-use Rattle.inverses.specs.declared.Written.{Written}
-use Rattle.inverses.specs.declared.Written.TheVariants.{Bytes, Refused as Unwritten}
+use Rattle.miters.specs.Report.{number_of}
 use Rattle.fields.specs.declared.Reason.{Reason}
 
 -- "Returned" of the table: the number alone, or the list and the offset, or the steps finished before; 0 for what is not
 unfoldable pub reason_of : Refusal → Reason
-reason_of (Call number) = record { number = number; list = 0; offset = 0; steps = 0 }
-reason_of (Byte number list offset) = record { number = number; list = list; offset = offset; steps = 0 }
-reason_of (Step number steps) = record { number = number; list = 0; offset = 0; steps = steps }
+reason_of (Call fault) = record { number = number_of (Call fault); list = 0; offset = 0; steps = 0 }
+reason_of (Byte list why) = record { number = number_of (Byte list why); list = list; offset = why.offset; steps = 0 }
+reason_of (Step fault steps) = record { number = number_of (Step fault steps); list = 0; offset = 0; steps = steps }
 
 -- "exponent, steps finished, nodes used and values used" after the kind, and the others
 abbrev pub with_counts : ℕ → Report → List ℕ → List ℕ
@@ -50,8 +49,8 @@ pub record Shown (report : Report) (numbers : List ℕ) (entries : List ℤ) (nu
   pub of_entries : entries' ≡ over (entries_of report.verdict) entries
 
 -- what a writer answers: the kind is 0 or, as in a report, 2; then the bytes written, and the refusal's number, list and offset
-unfoldable pub written_numbers : Written → List ℕ
-written_numbers (Bytes n) = 0 ∷ n ∷ 0 ∷ 0 ∷ 0 ∷ []
-written_numbers (Unwritten why) =
+unfoldable pub written_numbers : Result ℕ Refusal → List ℕ
+written_numbers (Ok n) = 0 ∷ n ∷ 0 ∷ 0 ∷ 0 ∷ []
+written_numbers (Err why) =
     let w = reason_of why in
     2 ∷ 0 ∷ w.number ∷ w.list ∷ w.offset ∷ []

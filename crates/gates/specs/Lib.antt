@@ -1,3 +1,4 @@
 pub mod Gate
+pub mod Code
 pub mod Rule
 pub mod Mask

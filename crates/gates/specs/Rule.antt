@@ -1,7 +1,7 @@
 -- A gate's data: how it acts on its target where its controls are 1, and what that does to a matrix's entries. The gates by kind as in
 -- Gate.antt, multiplication from the right before that from the left. Definitions only; that the data are the published matrices' is in
 -- proofs/Rules.antt.
-use Rattle.std.specs.Prelude.{◌≡◌, Bool, true, false, not, cond, ℕ, min, max, set}
+use Rattle.std.specs.Prelude.{◌≡◌, Bool, true, false, not, cond, ℕ, min, max, set, Option, Some, None}
 use Rattle.std.specs.Bool.{beq}
 use Rattle.algebra.specs.declared.Entry.{Entry}
 use Rattle.algebra.specs.Entry.{𝟘, 𝟙, neg, ◌⊕◌, ◌⊖◌, turned, w8^}
@@ -13,8 +13,8 @@ use Rattle.gates.specs.declared.Phases.{Phases}
 use Rattle.gates.specs.declared.Operands.{Operands}
 use Rattle.gates.specs.declared.Operands.TheVariants.{Qubit, Controlled, Masked}
 use Rattle.gates.specs.declared.Rule.{Rule}
-use Rattle.gates.specs.declared.Decision.{Decision}
-use Rattle.gates.specs.declared.Decision.TheVariants.{Known, Unknown}
+use Rattle.gates.specs.declared.Code.{Code}
+use Rattle.gates.specs.Code.{code_number}
 
 -- ---- the data of each code
 
@@ -22,47 +22,63 @@ abbrev pub phases : ℕ → ℕ → Phases
 phases z o = record { zero = z; one = o }
 
 -- diagonal: the same from both sides
-abbrev pub diagonal : Operands → ℕ → ℕ → Rule
+abbrev pub diagonal : Operands → ℕ → Code → Rule
 diagonal operands power undo =
     record { operands = operands; mixes = false; flips = false; swaps = false; right = phases 0 power; left = phases 0 power; inverse = undo }
 
-abbrev pub flipping : Operands → Phases → Phases → ℕ → Rule
+abbrev pub flipping : Operands → Phases → Phases → Code → Rule
 flipping operands r l undo = record { operands = operands; mixes = false; flips = true; swaps = false; right = r; left = l; inverse = undo }
 
 -- a gate that mixes its target's two entries, or exchanges the bits of its two targets
-abbrev pub unturned : Operands → Bool → Bool → ℕ → Rule
+abbrev pub unturned : Operands → Bool → Bool → Code → Rule
 unturned operands mixes swaps undo =
     record { operands = operands; mixes = mixes; flips = false; swaps = swaps; right = phases 0 0; left = phases 0 0; inverse = undo }
 
 abbrev pub kind_rule : Kind → Rule
-kind_rule Z = diagonal Qubit 4 2
-kind_rule S = diagonal Qubit 2 5
-kind_rule S† = diagonal Qubit 6 4
-kind_rule T = diagonal Qubit 1 7
-kind_rule T† = diagonal Qubit 7 6
-kind_rule X = flipping Qubit (phases 0 0) (phases 0 0) 0
-kind_rule Y = flipping Qubit (phases 2 6) (phases 6 2) 1
-kind_rule H = unturned Qubit true false 3
+kind_rule Z = diagonal Qubit 4 Code.Z
+kind_rule S = diagonal Qubit 2 Code.SDagger
+kind_rule S† = diagonal Qubit 6 Code.S
+kind_rule T = diagonal Qubit 1 Code.TDagger
+kind_rule T† = diagonal Qubit 7 Code.T
+kind_rule X = flipping Qubit (phases 0 0) (phases 0 0) Code.X
+kind_rule Y = flipping Qubit (phases 2 6) (phases 6 2) Code.Y
+kind_rule H = unturned Qubit true false Code.H
 
 abbrev pub pair_rule : Pair → Rule
-pair_rule CZ = diagonal Controlled 4 9
-pair_rule CNOT = flipping Controlled (phases 0 0) (phases 0 0) 8
+pair_rule CZ = diagonal Controlled 4 Code.Cz
+pair_rule CNOT = flipping Controlled (phases 0 0) (phases 0 0) Code.Cnot
 
 -- "Code 10 needs at least two controls and code 11 at least one"
 abbrev pub toffoli_rule : Rule
-toffoli_rule = flipping (Masked 2 1) (phases 0 0) (phases 0 0) 10
+toffoli_rule = flipping (Masked 2 1) (phases 0 0) (phases 0 0) Code.Toffoli
 
 abbrev pub fredkin_rule : Rule
-fredkin_rule = unturned (Masked 1 2) false true 11
+fredkin_rule = unturned (Masked 1 2) false true Code.Fredkin
 
-abbrev pub rule_of : Meant → Decision
-rule_of (one k) = Known (kind_rule k)
-rule_of (two k) = Known (pair_rule k)
-rule_of mask_one = Known toffoli_rule
-rule_of mask_two = Known fredkin_rule
-rule_of unknown = Unknown
+-- by the code
+abbrev pub code_rule : Code → Rule
+code_rule Code.Z = kind_rule Z
+code_rule Code.S = kind_rule S
+code_rule Code.SDagger = kind_rule S†
+code_rule Code.T = kind_rule T
+code_rule Code.TDagger = kind_rule T†
+code_rule Code.Cz = pair_rule CZ
+code_rule Code.X = kind_rule X
+code_rule Code.Y = kind_rule Y
+code_rule Code.Cnot = pair_rule CNOT
+code_rule Code.Toffoli = toffoli_rule
+code_rule Code.Fredkin = fredkin_rule
+code_rule Code.H = kind_rule H
 
-unfoldable pub decision : ℕ → Decision
+-- by what the number of a code means
+abbrev pub rule_of : Meant → Option Rule
+rule_of (one k) = Some (kind_rule k)
+rule_of (two k) = Some (pair_rule k)
+rule_of mask_one = Some toffoli_rule
+rule_of mask_two = Some fredkin_rule
+rule_of unknown = None
+
+unfoldable pub decision : ℕ → Option Rule
 decision code = rule_of (meant code)
 
 -- ---- the data as small matrices
@@ -91,26 +107,26 @@ abbrev pub controlled : (Bool → Bool → Entry) → Bool → Bool → Bool →
 controlled m c t c' t' = cond (beq c c') (cond c (m t t') (cond (beq t t') 𝟙 𝟘)) 𝟘
 
 -- what a decision says of the code: the published matrix, made column by column and row by row, and the inverse's code
-abbrev pub Published : Meant → Decision → Type 0
-Published (one k) (Known rule) =
+abbrev pub Published : Meant → Option Rule → Type 0
+Published (one k) (Some rule) =
     ((x y : Bool) → right_matrix rule x y ≡ small k x y) × ((x y : Bool) → left_matrix rule x y ≡ small k x y)
-    × (meant rule.inverse ≡ one (inverse_kind k))
-Published (one k) Unknown = ⊥
-Published (two k) (Known rule) =
+    × (meant (code_number rule.inverse) ≡ one (inverse_kind k))
+Published (one k) None = ⊥
+Published (two k) (Some rule) =
     ((c t c' t' : Bool) → controlled (right_matrix rule) c t c' t' ≡ small_pair k c t c' t')
     × ((c t c' t' : Bool) → controlled (left_matrix rule) c t c' t' ≡ small_pair k c t c' t')
-    × (meant rule.inverse ≡ two k)
-Published (two k) Unknown = ⊥
-Published mask_one (Known rule) =
-    ((x y : Bool) → right_matrix rule x y ≡ small X x y) × ((x y : Bool) → left_matrix rule x y ≡ small X x y) × (meant rule.inverse ≡ mask_one)
-Published mask_one Unknown = ⊥
-Published mask_two (Known rule) = (rule.swaps ≡ true) × (rule.mixes ≡ false) × (rule.right ≡ phases 0 0) × (rule.left ≡ phases 0 0)
-    × (meant rule.inverse ≡ mask_two)
-Published mask_two Unknown = ⊥
-Published unknown (Known rule) = ⊥
-Published unknown Unknown = Unit {0}
+    × (meant (code_number rule.inverse) ≡ two k)
+Published (two k) None = ⊥
+Published mask_one (Some rule) =
+    ((x y : Bool) → right_matrix rule x y ≡ small X x y) × ((x y : Bool) → left_matrix rule x y ≡ small X x y) × (meant (code_number rule.inverse) ≡ mask_one)
+Published mask_one None = ⊥
+Published mask_two (Some rule) = (rule.swaps ≡ true) × (rule.mixes ≡ false) × (rule.right ≡ phases 0 0) × (rule.left ≡ phases 0 0)
+    × (meant (code_number rule.inverse) ≡ mask_two)
+Published mask_two None = ⊥
+Published unknown (Some rule) = ⊥
+Published unknown None = Unit {0}
 
-pub record Decided (code : ℕ) (r : Decision) : Type 0 where
+pub record Decided (code : ℕ) (r : Option Rule) : Type 0 where
   pub is : r ≡ decision code
   pub published : Published (meant code) r
 

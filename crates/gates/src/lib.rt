@@ -2,34 +2,53 @@
 #![tactic(auto)]
 
 ghost use Rattle.std.specs.Prelude.{◌≡◌, true, false};
-ghost use Rattle.gates.specs.Rule.{diagonal, flipping, unturned, Decided};
+ghost use Rattle.gates.specs.Code.{code_number, Numbered};
+ghost use Rattle.gates.specs.Rule.{diagonal, flipping, unturned, code_rule, Decided};
 
-// The codes, by number; those from CODES on are unknown.
-const X: u32 = 0;
+// The codes of the gates, by number. There are no others.
+#[derive(Clone, Copy, PartialEq, Eq, Debug)]
+pub enum Code {
+    X = 0,
+    Y = 1,
+    Z = 2,
+    H = 3,
+    S = 4,
+    SDagger = 5,
+    T = 6,
+    TDagger = 7,
+    Cnot = 8,
+    Cz = 9,
+    Toffoli = 10,
+    Fredkin = 11,
+}
 
-const Y: u32 = 1;
+// A number that is no gate's code.
+#[derive(Clone, Copy, PartialEq, Eq, Debug)]
+pub struct UnknownCode;
 
-const Z: u32 = 2;
+impl TryFrom<u32> for Code {
+    type Error = UnknownCode;
 
-const H: u32 = 3;
+    ghost try_from_gives = { λ number r. Numbered number r };
 
-const S: u32 = 4;
-
-const S_DAGGER: u32 = 5;
-
-const T: u32 = 6;
-
-const T_DAGGER: u32 = 7;
-
-const CNOT: u32 = 8;
-
-const CZ: u32 = 9;
-
-const TOFFOLI: u32 = 10;
-
-const FREDKIN: u32 = 11;
-
-const CODES: u32 = 12;
+    fn try_from(number: u32) -> Result<Code, UnknownCode> {
+        match number {
+            0 => Ok(Code::X),
+            1 => Ok(Code::Y),
+            2 => Ok(Code::Z),
+            3 => Ok(Code::H),
+            4 => Ok(Code::S),
+            5 => Ok(Code::SDagger),
+            6 => Ok(Code::T),
+            7 => Ok(Code::TDagger),
+            8 => Ok(Code::Cnot),
+            9 => Ok(Code::Cz),
+            10 => Ok(Code::Toffoli),
+            11 => Ok(Code::Fredkin),
+            _ => Err(UnknownCode),
+        }
+    }
+}
 
 // The powers of w8 by which an entry is multiplied, by the target's bit.
 #[derive(Clone, Copy)]
@@ -56,17 +75,11 @@ pub struct Rule {
     pub swaps: bool,
     pub right: Phases,
     pub left: Phases,
-    pub inverse: u32,
-}
-
-#[derive(Clone, Copy)]
-pub enum Decision {
-    Known(Rule),
-    Unknown,
+    pub inverse: Code,
 }
 
 // Diagonal: 1 at bit 0 and w8 to the power at bit 1, from both sides.
-fn diagonal(operands: Operands, power: u32, inverse: u32) -> Rule
+fn diagonal(operands: Operands, power: u32, inverse: Code) -> Rule
     ensures { result ≡ diagonal operands power inverse }
 {
     Rule {
@@ -87,7 +100,7 @@ fn diagonal(operands: Operands, power: u32, inverse: u32) -> Rule
 }
 
 // The target's bit is flipped; from the right the entry is multiplied by the powers of `right`, from the left by those of `left`.
-fn flipping(operands: Operands, right: Phases, left: Phases, inverse: u32) -> Rule
+fn flipping(operands: Operands, right: Phases, left: Phases, inverse: Code) -> Rule
     ensures { result ≡ flipping operands right left inverse }
 {
     Rule {
@@ -102,7 +115,7 @@ fn flipping(operands: Operands, right: Phases, left: Phases, inverse: u32) -> Ru
 }
 
 // The target's two entries are mixed, or the bits of two targets are exchanged.
-fn unturned(operands: Operands, mixes: bool, swaps: bool, inverse: u32) -> Rule
+fn unturned(operands: Operands, mixes: bool, swaps: bool, inverse: Code) -> Rule
     ensures { result ≡ unturned operands mixes swaps inverse }
 {
     let plain = Phases { zero: 0, one: 0 };
@@ -117,36 +130,55 @@ fn unturned(operands: Operands, mixes: bool, swaps: bool, inverse: u32) -> Rule
     }
 }
 
-// By kind, each dagger after its gate: diagonal, then flips and swaps, then H, then the codes of no gate. docs/GATES.md goes through them.
-pub fn decide(code: u32) -> Decision
+impl Code {
+    // Its number, which stands in a list.
+    pub fn number(self) -> u32
+        ensures { result ≡ code_number self }
+    {
+        self as u32
+    }
+
+    // A gate's data, by kind, each dagger after its gate: diagonal, then flips and swaps, then H. docs/GATES.md goes through them.
+    pub fn rule(self) -> Rule
+        ensures is { result ≡ code_rule self }
+        ensures decided { Decided (code_number self) (Some result) }
+    {
+        let plain = Phases { zero: 0, one: 0 };
+        let right_of_y = Phases { zero: 2, one: 6 };
+        let left_of_y = Phases { zero: 6, one: 2 };
+        let one = Operands::Qubit;
+        let two = Operands::Controlled;
+        let flipped = Operands::Masked {
+            least: 2,
+            targets: 1,
+        };
+        let swapped = Operands::Masked {
+            least: 1,
+            targets: 2,
+        };
+        match self {
+            Code::Z => diagonal(one, 4, Code::Z),
+            Code::S => diagonal(one, 2, Code::SDagger),
+            Code::SDagger => diagonal(one, 6, Code::S),
+            Code::T => diagonal(one, 1, Code::TDagger),
+            Code::TDagger => diagonal(one, 7, Code::T),
+            Code::Cz => diagonal(two, 4, Code::Cz),
+            Code::X => flipping(one, plain, plain, Code::X),
+            Code::Y => flipping(one, right_of_y, left_of_y, Code::Y),
+            Code::Cnot => flipping(two, plain, plain, Code::Cnot),
+            Code::Toffoli => flipping(flipped, plain, plain, Code::Toffoli),
+            Code::Fredkin => unturned(swapped, false, true, Code::Fredkin),
+            Code::H => unturned(one, true, false, Code::H),
+        }
+    }
+}
+
+// The data of the gate with this code, if there is one.
+pub fn decide(code: u32) -> Option<Rule>
     ensures { Decided code result }
 {
-    let plain = Phases { zero: 0, one: 0 };
-    let right_of_y = Phases { zero: 2, one: 6 };
-    let left_of_y = Phases { zero: 6, one: 2 };
-    let one = Operands::Qubit;
-    let two = Operands::Controlled;
-    let flipped = Operands::Masked {
-        least: 2,
-        targets: 1,
-    };
-    let swapped = Operands::Masked {
-        least: 1,
-        targets: 2,
-    };
-    match code {
-        Z => Decision::Known(diagonal(one, 4, Z)),
-        S => Decision::Known(diagonal(one, 2, S_DAGGER)),
-        S_DAGGER => Decision::Known(diagonal(one, 6, S)),
-        T => Decision::Known(diagonal(one, 1, T_DAGGER)),
-        T_DAGGER => Decision::Known(diagonal(one, 7, T)),
-        CZ => Decision::Known(diagonal(two, 4, CZ)),
-        X => Decision::Known(flipping(one, plain, plain, X)),
-        Y => Decision::Known(flipping(one, right_of_y, left_of_y, Y)),
-        CNOT => Decision::Known(flipping(two, plain, plain, CNOT)),
-        TOFFOLI => Decision::Known(flipping(flipped, plain, plain, TOFFOLI)),
-        FREDKIN => Decision::Known(unturned(swapped, false, true, FREDKIN)),
-        H => Decision::Known(unturned(one, true, false, H)),
-        CODES..=u32::MAX => Decision::Unknown,
+    match Code::try_from(code) {
+        Ok(known) => Some(known.rule()),
+        Err(UnknownCode) => None,
     }
 }

@@ -9,7 +9,7 @@ use lib.IntN.{ℤ, pos}
 use lib.ListN.{length, drop, set, length-set, length-append, length-map}
 use Rattle.algebra.specs.Entry.{𝟘, 𝟙}
 use Rattle.diagrams.specs.Diagram.{value, node, Node, branch, code}
-use Rattle.stores.specs.Columns.{over, NodeColumns, NodesWritten, Published}
+use Rattle.stores.specs.Columns.{Columns, columns, over, NodeColumns, NodesWritten, Published}
 use Rattle.identities.specs.Identity.{identity_root, identity_nodes, QubitSet}
 use Rattle.stores.proofs.Filling.{patch_snoc}
 
@@ -31,26 +31,33 @@ over_snoc {A} l old x i e below =
     longer : i + 1 ≡ length (l ++ (x ∷ []))
     longer = omega (arith, length-append l (x ∷ []))
 
-pub pair_over : {A : Type 0} (l : List A) (x y : A) → 2 ≤ length l → set (set l 0 x) 1 y ≡ over (x ∷ y ∷ []) l
-pair_over [] x y h = absurd (omega arith)
-pair_over (a ∷ []) x y h = absurd (omega arith)
-pair_over (a ∷ (b ∷ l)) x y h = refl
-
 -- the identity's values
-pub pairs_published : {a b c d a' b' c' d' : List ℤ} → a' ≡ over (pos 0 ∷ pos 0 ∷ []) a → b' ≡ over (pos 0 ∷ pos 0 ∷ []) b
-    → c' ≡ over (pos 0 ∷ pos 0 ∷ []) c → d' ≡ over (pos 1 ∷ pos 0 ∷ []) d → Published (𝟙 ∷ 𝟘 ∷ []) a b c d a' b' c' d'
+pub pairs_published : (C : Columns) {a b c d : List ℤ} → a ≡ over (pos 0 ∷ pos 0 ∷ []) C.a → b ≡ over (pos 0 ∷ pos 0 ∷ []) C.b
+    → c ≡ over (pos 0 ∷ pos 0 ∷ []) C.c → d ≡ over (pos 1 ∷ pos 0 ∷ []) C.d → Published (𝟙 ∷ 𝟘 ∷ []) C (columns C.level C.low C.high a b c d)
 unfolding 𝟘 𝟙
-pairs_published p q r s = record { of_a = p; of_b = q; of_c = r; of_d = s }
+pairs_published C p q r s = record {
+  of_a = p;
+  of_b = q;
+  of_c = r;
+  of_d = s;
+  nodes = record { same_level = refl; same_low = refl; same_high = refl };
+}
 
-module _ {ns : List Node} {level low high level' low' high' : List ℕ} (written : NodesWritten ns level low high level' low' high') where
+-- the node columns have these nodes written over what they had
+record Over (ns : List Node) (C : Columns) (level low high : List ℕ) : Type 0 where
+  of_level : level ≡ over (map (λ (n : Node). n.level) ns) C.level
+  of_low : low ≡ over (map (λ (n : Node). code n.low) ns) C.low
+  of_high : high ≡ over (map (λ (n : Node). code n.high) ns) C.high
+
+module _ {ns : List Node} {C : Columns} {level low high : List ℕ} (written : Over ns C level low high) where
   -- one node more
-  written_snoc : (n : Node) (i : ℕ) {lv lo hi : ℕ} → i ≡ length ns → NodeColumns level low high (i + 1)
+  written_snoc : (n : Node) (i : ℕ) {lv lo hi : ℕ} → i ≡ length ns → NodeColumns C (i + 1)
       → lv ≡ n.level → lo ≡ code n.low → hi ≡ code n.high
-      → NodesWritten (ns ++ (n ∷ [])) level low high (set level' i lv) (set low' i lo) (set high' i hi)
+      → Over (ns ++ (n ∷ [])) C (set level i lv) (set low i lo) (set high i hi)
   written_snoc n i e fits p q r = record {
-    of_level = column (λ m. m.level) level p written.of_level fits.in_level;
-    of_low = column (λ m. code m.low) low q written.of_low fits.in_low;
-    of_high = column (λ m. code m.high) high r written.of_high fits.in_high;
+    of_level = column (λ m. m.level) C.level p written.of_level fits.in_level;
+    of_low = column (λ m. code m.low) C.low q written.of_low fits.in_low;
+    of_high = column (λ m. code m.high) C.high r written.of_high fits.in_high;
   }
     where
       column : (f : Node → ℕ) {x : ℕ} (l : List ℕ) {l' : List ℕ} → x ≡ f n → l' ≡ over (map f ns) l → i + 1 ≤ length l
@@ -62,20 +69,31 @@ module _ {ns : List Node} {level low high level' low' high' : List ℕ} (written
           over (map f (ns ++ (n ∷ []))) l ∎
 
 -- the nodes of k qubits, with x for their root, and those of one qubit more
-module _ (lv k x : ℕ) {level low high level₀ low₀ high₀ level₁ low₁ high₁ : List ℕ} where
-  pub qubit_written : NodesWritten (identity_nodes (suc (suc lv)) k) level low high level₀ low₀ high₀ → NodeColumns level low high (3 * k + 3)
-      → x ≡ code (identity_root k) → QubitSet k lv x level₀ low₀ high₀ level₁ low₁ high₁
-      → NodesWritten (identity_nodes lv (k + 1)) level low high level₁ low₁ high₁
+module _ (lv k x : ℕ) {C C₀ C₁ : Columns} where
+  pub qubit_written : NodesWritten (identity_nodes (suc (suc lv)) k) C C₀ → NodeColumns C (3 * k + 3)
+      → x ≡ code (identity_root k) → QubitSet k lv x C₀ C₁ → NodesWritten (identity_nodes lv (k + 1)) C C₁
   unfolding identity_nodes
   qubit_written w fits root is =
       let long : length (identity_nodes (suc (suc lv)) k) ≡ 3 * k = length_identity (suc (suc lv)) k in
-      let w₁ = written_snoc w n₁ (3 * k) (sym long) (within (3 * k + 1) (omega arith)) (add-one lv) root refl in
+      let w₀ : Over (identity_nodes (suc (suc lv)) k) C C₀.level C₀.low C₀.high = record { of_level = w.of_level; of_low = w.of_low; of_high = w.of_high } in
+      let w₁ = written_snoc w₀ n₁ (3 * k) (sym long) (within (3 * k + 1) (omega arith)) (add-one lv) root refl in
       let w₂ = written_snoc w₁ n₂ (3 * k + 1) (omega (arith, long, length-append (identity_nodes (suc (suc lv)) k) (n₁ ∷ [])))
       (within (3 * k + 1 + 1) (omega arith)) (add-one lv) refl root in
       let w₃ = written_snoc w₂ n₃ (3 * k + 2)
       (omega (arith, long, length-append (identity_nodes (suc (suc lv)) k) (n₁ ∷ []), length-append (identity_nodes (suc (suc lv)) k ++ (n₁ ∷ [])) (n₂ ∷ [])))
       (within (3 * k + 2 + 1) (omega arith)) refl (first_child k) (second_child k) in
-      rw (add-one k, is.of_level, is.of_low, is.of_high) (simp append_assoc at w₃)
+      let all : Over (identity_nodes lv (k + 1)) C C₁.level C₁.low C₁.high = rw (add-one k, is.of_level, is.of_low, is.of_high) (simp append_assoc at w₃) in
+      record {
+        of_level = all.of_level;
+        of_low = all.of_low;
+        of_high = all.of_high;
+        values = record {
+          same_a = is.values.same_a ∙ w.values.same_a;
+          same_b = is.values.same_b ∙ w.values.same_b;
+          same_c = is.values.same_c ∙ w.values.same_c;
+          same_d = is.values.same_d ∙ w.values.same_d;
+        };
+      }
     where
       n₁ : Node
       n₁ = branch (suc lv) (identity_root k) (value 1)
@@ -92,7 +110,7 @@ module _ (lv k x : ℕ) {level low high level₀ low₀ high₀ level₁ low₁ 
       second_child : (k : ℕ) → 6 * k + 3 ≡ 2 * (3 * k + 1) + 1
       second_child k = omega arith
 
-      within : (i : ℕ) → i ≤ 3 * k + 3 → NodeColumns level low high i
+      within : (i : ℕ) → i ≤ 3 * k + 3 → NodeColumns C i
       within i below = record {
         in_level = omega (arith, fits.in_level);
         in_low = omega (arith, fits.in_low);
@@ -100,32 +118,30 @@ module _ (lv k x : ℕ) {level low high level₀ low₀ high₀ level₁ low₁ 
       }
 
 -- a loop has written the nodes of the last k qubits of n, with x for their root
-pub record Writing (n : ℕ) (level₀ low₀ high₀ level low high : List ℕ) (k x : ℕ) : Type 0 where
+pub record Writing (n : ℕ) (C₀ C : Columns) (k x : ℕ) : Type 0 where
   pub bound : k ≤ n
   pub root : x ≡ code (identity_root k)
-  pub nodes : NodesWritten (identity_nodes (2 * (n - k)) k) level₀ low₀ high₀ level low high
-  pub level_long : length level ≡ length level₀
-  pub low_long : length low ≡ length low₀
-  pub high_long : length high ≡ length high₀
+  pub nodes : NodesWritten (identity_nodes (2 * (n - k)) k) C₀ C
+  pub level_long : length C.level ≡ length C₀.level
+  pub low_long : length C.low ≡ length C₀.low
+  pub high_long : length C.high ≡ length C₀.high
 
-module _ {n : ℕ} {level₀ low₀ high₀ : List ℕ} where
-  pub writing_starts : Writing n level₀ low₀ high₀ level₀ low₀ high₀ 0 0
+module _ {n : ℕ} {C₀ : Columns} where
+  pub writing_starts : Writing n C₀ C₀ 0 0
   unfolding identity_root identity_nodes
   writing_starts = record {
     bound = omega arith;
     root = refl;
-    nodes = record { of_level = refl; of_low = refl; of_high = refl };
+    nodes = record { of_level = refl; of_low = refl; of_high = refl; values = record { same_a = refl; same_b = refl; same_c = refl; same_d = refl } };
     level_long = refl;
     low_long = refl;
     high_long = refl;
   }
 
-  module _ {level low high : List ℕ} {k x : ℕ} (w : Writing n level₀ low₀ high₀ level low high k x) where
-    pub writing_goes : {level' low' high' : List ℕ} → k < n → NodeColumns level₀ low₀ high₀ (3 * n)
-        → QubitSet k (2 * (n - 1 - k)) x level low high level' low' high'
-        → Writing n level₀ low₀ high₀ level' low' high' (k + 1) (6 * k + 5)
+  module _ {C : Columns} {k x : ℕ} (w : Writing n C₀ C k x) where
+    pub writing_goes : {C' : Columns} → k < n → NodeColumns C₀ (3 * n) → QubitSet k (2 * (n - 1 - k)) x C C' → Writing n C₀ C' (k + 1) (6 * k + 5)
     unfolding identity_root
-    writing_goes {level'} {low'} {high'} less fits is = record {
+    writing_goes less fits is = record {
       bound = omega arith;
       root = rw (add-one k) (third k);
       nodes = rw (← next_level) (qubit_written (2 * (n - 1 - k)) k x (rw (sym this_level) w.nodes) within w.root is);
@@ -143,15 +159,9 @@ module _ {n : ℕ} {level₀ low₀ high₀ : List ℕ} where
         next_level : 2 * (n - 1 - k) ≡ 2 * (n - (k + 1))
         next_level = omega arith
 
-        within : NodeColumns level₀ low₀ high₀ (3 * k + 3)
+        within : NodeColumns C₀ (3 * k + 3)
         within = record {
           in_level = omega (arith, fits.in_level);
           in_low = omega (arith, fits.in_low);
           in_high = omega (arith, fits.in_high);
         }
-
-    pub writing_ends : n ≤ k → NodesWritten (identity_nodes 0 n) level₀ low₀ high₀ level low high
-    writing_ends done =
-        let all : k ≡ n = omega (arith, w.bound) in
-        let first_level : 2 * (n - k) ≡ 0 = omega arith in
-        rw (first_level, all) at w.nodes

@@ -3,6 +3,7 @@ use Rattle.std.specs.Prelude.{◌≡◌, List, [], ◌∷◌, ◌++◌, ℕ, zer
 use Rattle.algebra.specs.declared.Entry.{Entry}
 use Rattle.algebra.specs.Entry.{𝟘, 𝟙}
 use Rattle.diagrams.specs.Diagram.{Ref, value, node, Node, branch, Store, holding}
+use Rattle.stores.specs.Columns.{Columns, SameValues}
 
 -- value 0 is 1 and value 1 is 0; each qubit, the last one first, has three nodes, of which the third is the root
 unfoldable pub identity_root : ℕ → Ref
@@ -22,7 +23,8 @@ abbrev pub identity_store : ℕ → Store Entry
 identity_store n = holding (identity_nodes 0 n) (𝟙 ∷ 𝟘 ∷ [])
 
 -- the slots of the three nodes of a qubit that asks at the levels lv and lv + 1, after k qubits with x for their root
-pub record QubitSet (k lv x : ℕ) (level low high level' low' high' : List ℕ) : Type 0 where
-  pub of_level : level' ≡ set (set (set level (3 * k) (lv + 1)) (3 * k + 1) (lv + 1)) (3 * k + 2) lv
-  pub of_low : low' ≡ set (set (set low (3 * k) x) (3 * k + 1) 2) (3 * k + 2) (6 * k + 1)
-  pub of_high : high' ≡ set (set (set high (3 * k) 2) (3 * k + 1) x) (3 * k + 2) (6 * k + 3)
+pub record QubitSet (k lv x : ℕ) (C C' : Columns) : Type 0 where
+  pub of_level : C'.level ≡ set (set (set C.level (3 * k) (lv + 1)) (3 * k + 1) (lv + 1)) (3 * k + 2) lv
+  pub of_low : C'.low ≡ set (set (set C.low (3 * k) x) (3 * k + 1) 2) (3 * k + 2) (6 * k + 1)
+  pub of_high : C'.high ≡ set (set (set C.high (3 * k) 2) (3 * k + 1) x) (3 * k + 2) (6 * k + 3)
+  pub values : SameValues C C'

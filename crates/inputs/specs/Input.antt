@@ -1,15 +1,15 @@
 -- What the verdict program reports on the bytes that it has read. Definitions only; the line of a report is in reports.
 use Rattle.std.specs.Prelude.{cond, List, ℕ, leb, length, take, drop}
-use Rattle.circuits.specs.Refusals.{ends_early}
+use Rattle.circuits.specs.declared.Fault.{Fault}
+use Rattle.circuits.specs.Refusals.{refusal, ends_early}
 use Rattle.circuits.specs.Reading.{Reading, read, refused as unread, number}
-use Rattle.miters.specs.declared.Refusal.TheVariants.{Byte}
 use Rattle.miters.specs.declared.Report.{Report}
-use Rattle.miters.specs.Report.{refused}
+use Rattle.miters.specs.Report.{refused, at_byte}
 use Rattle.pairs.specs.Pair.{lists_report}
 
 -- "A bad length gives 3 or 4 at list 0, byte 0"
-abbrev pub bad_length : ℕ → Report
-bad_length number = refused (Byte number 0 0)
+abbrev pub bad_length : Fault → Report
+bad_length fault = refused (at_byte 0 (refusal fault 0))
 
 -- the bytes left after the length; "one over the bytes left gives 3 there"
 unfoldable pub rest_report : ℕ → List ℕ → Report
@@ -17,7 +17,7 @@ rest_report n rest = cond (leb n (length rest)) (lists_report (take n rest) (dro
 
 abbrev pub after_length : List ℕ → Reading ℕ → Report
 after_length bytes (read n next) = rest_report n (drop next bytes)
-after_length bytes (unread why) = bad_length why.number
+after_length bytes (unread why) = bad_length why.fault
 
 -- "It reads at most 32,768 bytes of standard input and judges those: the byte length of list 1 as a number, list 1, then list 2
 -- to the end."; since S-2 "The verdict program now reads 57,344 bytes."

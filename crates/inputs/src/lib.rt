@@ -5,20 +5,16 @@ ghost use Rattle.std.specs.Prelude.{◌≡◌, ◌≤◌, length};
 ghost use Rattle.reports.specs.Line.{line, over_front};
 ghost use Rattle.inputs.specs.Input.{bad_length, input_report};
 
-use circuits::NumberRead;
+use circuits::{Fault, Reader};
 use miters::{Refusal, Report};
 
-// The number of the refusal of a length that the bytes end before.
-const ENDS_EARLY: u32 = 3;
-
 // The refusal that the length of list 1 gives.
-fn refuse_length(number: u32) -> Report
-    ensures { result ≡ bad_length number }
+fn refuse_length(fault: Fault) -> Report
+    ensures { result ≡ bad_length fault }
 {
     miters::refused(Refusal::Byte {
-        number,
         list: 0,
-        offset: 0,
+        why: circuits::Refusal { fault, offset: 0 },
     })
 }
 
@@ -26,16 +22,14 @@ fn refuse_length(number: u32) -> Report
 pub fn judge_input(bytes: &[u8]) -> Report
     ensures { result ≡ input_report bytes.now }
 {
-    match readers::number_at(bytes, 0) {
-        NumberRead::Refused(why) => refuse_length(why.number),
-        NumberRead::Number { value, next } => {
-            let rest = &bytes[next..];
-            let end = value as usize;
-            if rest.len() < end {
-                return refuse_length(ENDS_EARLY);
-            }
-            pairs::judge_lists(&rest[..end], &rest[end..])
-        }
+    let mut reader = Reader::new(bytes, 0);
+    let length = match reader.number() {
+        Ok(length) => length as usize,
+        Err(why) => return refuse_length(why.fault),
+    };
+    match bytes[reader.at..].split_at_checked(length) {
+        Some((first, second)) => pairs::judge_lists(first, second),
+        None => refuse_length(Fault::EndsEarly),
     }
 }
 

@@ -8,6 +8,8 @@ use native.Mathlib.Omega.{arith}
 use borrow.Author.Tests.{le-leb, lt-leb}
 use lib.ListN.{length, drop, length-append}
 use lib.Seq.{sets}
+use Rattle.std.specs.Prelude.{Result, Ok, Err, MatchResult}
+use Rattle.std.specs.Result.{IsErrAnd}
 use Rattle.gates.specs.Gate.{Gate}
 use Rattle.circuits.specs.declared.Refusal.{Refusal as ListRefusal}
 use Rattle.circuits.specs.Refusals.{base_limits}
@@ -18,10 +20,10 @@ use Rattle.encodings.proofs.Lengths.{decoded_ends, list_long}
 use Rattle.encodings.proofs.Puts.{put_then, sets_over}
 use Rattle.stores.specs.Columns.{over}
 use Rattle.miters.specs.declared.Refusal.{Refusal}
+use Rattle.miters.specs.declared.CallFault.TheVariants.{ShortBuffer}
 use Rattle.miters.specs.declared.Refusal.TheVariants.{Call}
 use Rattle.miters.specs.Report.{at_byte}
 use Rattle.lists.specs.Answers.{Listed}
-use Rattle.inverses.specs.declared.Written.TheVariants.{Bytes, Refused}
 use Rattle.inverses.specs.Inverse.{undone, inverse_bytes, Filled, inverted_by, inverted}
 use Rattle.inverses.specs.Writing.{gates_of, gates_said}
 use Rattle.inverses.proofs.Undone.{undone_length, undone_long}
@@ -45,20 +47,20 @@ inverse_length s {c} e =
 
 module _ (s buffer : List ℕ) where
   pub inverted_unread : {why : ListRefusal} → decoded base_limits s ≡ unread why
-      → inverted s buffer ≡ record { answer = Refused (at_byte 1 why); buffer = buffer }
+      → inverted s buffer ≡ record { answer = Err (at_byte 1 why); buffer = buffer }
   unfolding inverted
   inverted_unread e = ap (inverted_by buffer) e
 
   module _ {c : Circuit} {next : ℕ} (e : decoded base_limits s ≡ read c next) where
-    pub inverted_short : length buffer < length s → inverted s buffer ≡ record { answer = Refused (Call 16); buffer = buffer }
+    pub inverted_short : length buffer < length s → inverted s buffer ≡ record { answer = Err (Call ShortBuffer); buffer = buffer }
     unfolding inverted
     inverted_short short = ap (inverted_by buffer) e ∙ rw (lt-leb (length (inverse_bytes c)) (length buffer) (omega (arith, inverse_length s e)))
 
-    pub inverted_long : length s ≤ length buffer → inverted s buffer ≡ record { answer = Bytes (length s); buffer = over (inverse_bytes c) buffer }
+    pub inverted_long : length s ≤ length buffer → inverted s buffer ≡ record { answer = Ok (length s); buffer = over (inverse_bytes c) buffer }
     unfolding inverted
     inverted_long room =
         ap (inverted_by buffer) e ∙ rw (le-leb (length (inverse_bytes c)) (length buffer) (omega (arith, inverse_length s e)))
-        (ap (λ (k : ℕ). record { answer = Bytes k; buffer = over (inverse_bytes c) buffer }) (inverse_length s e))
+        (ap (λ (k : ℕ). record { answer = Ok k; buffer = over (inverse_bytes c) buffer }) (inverse_length s e))
 
 -- ---- what an answer of k bytes says
 
@@ -70,11 +72,11 @@ pub record Wrote (s buffer : List ℕ) (k : ℕ) : Type 0 where
   pub room : k ≤ length buffer
   pub filled : (inverted s buffer).buffer ≡ over (inverse_bytes c) buffer
 
-module _ (s buffer : List ℕ) {k : ℕ} (answered : (inverted s buffer).answer ≡ Bytes k) where
+module _ (s buffer : List ℕ) {k : ℕ} (answered : (inverted s buffer).answer ≡ Ok k) where
   -- it was not refused
-  unrefused : {why : Refusal} → inverted s buffer ≡ record { answer = Refused why; buffer = buffer } → ⊥
+  unrefused : {why : Refusal} → inverted s buffer ≡ record { answer = Err why; buffer = buffer } → ⊥
   unrefused e =
-      let both : Refused _ ≡ Bytes k = sym (ap (λ (f : Filled). f.answer) e) ∙ answered in
+      let both : Err _ ≡ Ok k = sym (ap (λ (f : Filled). f.answer) e) ∙ answered in
       let z : ◌≡◌ {A = ℕ} 0 1 = cc in
       omega arith
 
@@ -84,7 +86,7 @@ module _ (s buffer : List ℕ) {k : ℕ} (answered : (inverted s buffer).answer 
     | no short ↦ absurd (unrefused (inverted_short s buffer e (omega arith)))
     | yes room ↦
         let is = inverted_long s buffer e room in
-        let both : Bytes (length s) ≡ Bytes k = sym (ap (λ (f : Filled). f.answer) is) ∙ answered in
+        let both : Ok (length s) ≡ Ok k = sym (ap (λ (f : Filled). f.answer) is) ∙ answered in
         let count : length s ≡ k = cc in
         record {
           c = c;
@@ -109,13 +111,13 @@ module _ (s buffer : List ℕ) {k : ℕ} (answered : (inverted s buffer).answer 
 -- ---- the parts that were written
 
 module _ (s buffer : List ℕ) {n m first : ℕ} (l : Listed (decoded base_limits s) n m first) where
-  pub short_answer : length buffer < length s → inverted s buffer ≡ record { answer = Refused (Call 16); buffer = buffer }
+  pub short_answer : length buffer < length s → inverted s buffer ≡ record { answer = Err (Call ShortBuffer); buffer = buffer }
   short_answer short = inverted_short s buffer l.was_read short
 
   module _ (room : length s ≤ length buffer) {one two three : List ℕ} {next last : ℕ} where
     pub written_all : Put (number_bytes n) 0 buffer one next → Put (number_bytes m) next one two last
         → three ≡ sets two first (gates_bytes (undone (gates_said s)))
-        → (Bytes (length s) ≡ (inverted s buffer).answer) × (three ≡ (inverted s buffer).buffer)
+        → (Ok (length s) ≡ (inverted s buffer).answer) × (three ≡ (inverted s buffer).buffer)
     unfolding inverse_bytes list_bytes
     written_all qubits count gates =
         let c = l.circuit in
@@ -132,3 +134,10 @@ module _ (s buffer : List ℕ) {n m first : ℕ} (l : Listed (decoded base_limit
           sym (ap (λ (f : Filled). f.answer) answer),
           all.stored ∙ sets_over (inverse_bytes c) buffer (omega (arith, long)) ∙ sym (ap (λ (f : Filled). f.buffer) answer),
         )
+
+-- ---- a refusal that was taken for another
+
+pub map_refused : {T E D : Type 0} (answer : Result T E) (mapped : Result T D) (Post : E → D → Type 0) (is : D)
+    → MatchResult answer (λ x. mapped ≡ Ok x) (λ e. IsErrAnd mapped (Post e)) → mapped ≡ Err is → (why : E) × (answer ≡ Err why) × Post why is
+map_refused (Ok x) mapped Post is cases e = let both : Ok x ≡ Err is = sym cases ∙ e in cc
+map_refused (Err why) mapped Post is cases e = (why, refl, subst (λ r. IsErrAnd r (Post why)) e cases)

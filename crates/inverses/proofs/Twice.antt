@@ -6,17 +6,17 @@ use Prim.Native.Nat.{ℕ, ◌≤◌}
 use native.Mathlib.Omega.{arith}
 use lib.ListN.{length, take, drop}
 use lib.Seq.{take_at}
+use Rattle.std.specs.Prelude.{Ok}
 use Rattle.gates.specs.Gate.{Gate}
 use Rattle.circuits.specs.declared.Limits.{Limits}
 use Rattle.circuits.specs.Refusals.{base_limits}
 use Rattle.circuits.specs.Reading.{read, Circuit, decoded}
 use Rattle.circuits.specs.Within.{Within}
 use Rattle.circuits.proofs.Within.{decoded_within}
-use Rattle.encodings.specs.Encoding.{list_bytes, Bytes as All_bytes, Decodes}
+use Rattle.encodings.specs.Encoding.{list_bytes, Bytes, Decodes}
 use Rattle.encodings.proofs.Accepted.{accepted_encoded, base_accepted_iff_encoded}
 use Rattle.encodings.proofs.Bytes.{encoding_bytes}
 use Rattle.stores.specs.Columns.{over}
-use Rattle.inverses.specs.declared.Written.TheVariants.{Bytes}
 use Rattle.inverses.specs.Inverse.{undone, inverse_bytes, inverted}
 use Rattle.inverses.specs.Claims.{written, Undoes}
 use Rattle.inverses.proofs.Undone.{undone_undone, undone_length, undone_fit}
@@ -41,8 +41,8 @@ module _ (s : List ℕ) {c : Circuit} {next : ℕ} (e : decoded base_limits s �
       c.qubits (undone c.gates)).1 (within, refl)
 
   -- with any buffer that has room
-  inverted_back : All_bytes s → (buffer : List ℕ) → length s ≤ length buffer
-      → inverted (inverse_bytes c) buffer ≡ record { answer = Bytes (length s); buffer = over s buffer }
+  inverted_back : Bytes s → (buffer : List ℕ) → length s ≤ length buffer
+      → inverted (inverse_bytes c) buffer ≡ record { answer = Ok (length s); buffer = over s buffer }
   unfolding inverse_bytes
   inverted_back bytes buffer room =
       let long = inverse_length s e in
@@ -50,11 +50,11 @@ module _ (s : List ℕ) {c : Circuit} {next : ℕ} (e : decoded base_limits s �
       (accepted_encoded base_limits s bytes c.qubits c.gates (record { first = c.first; next = next; accepted = e })).1 in
       let back : list_bytes c.qubits (undone (undone c.gates)) ≡ s = ap (list_bytes c.qubits) (undone_undone c.gates) ∙ sym first in
       inverted_long (inverse_bytes c) buffer inverse_decodes.accepted (omega (arith, long))
-      ∙ ap₂ (λ (k : ℕ) (l : List ℕ). record { answer = Bytes k; buffer = over l buffer }) long back
+      ∙ ap₂ (λ (k : ℕ) (l : List ℕ). record { answer = Ok k; buffer = over l buffer }) long back
 
 -- ---- what a call has written
 
-pub undoes : (list : List ℕ) → All_bytes list → (buffer : List ℕ) {k : ℕ} → (inverted list buffer).answer ≡ Bytes k → Undoes list buffer k
+pub undoes : (list : List ℕ) → Bytes list → (buffer : List ℕ) {k : ℕ} → (inverted list buffer).answer ≡ Ok k → Undoes list buffer k
 undoes list bytes buffer {k} answered =
     let w = wrote list buffer answered in
     let inverse = inverse_bytes w.c in
@@ -68,7 +68,7 @@ undoes list bytes buffer {k} answered =
       back = λ second room.
           inverted (written list buffer k) second ≡⟨ ap (λ (l : List ℕ). inverted l second) is ⟩
           inverted inverse second ≡⟨ inverted_back list w.was_read bytes second (omega (arith, count)) ⟩
-          record { answer = Bytes (length list); buffer = over list second }
-          ≡⟨ ap (λ (n : ℕ). record { answer = Bytes n; buffer = over list second }) count ⟩
-          record { answer = Bytes k; buffer = over list second } ∎;
+          record { answer = Ok (length list); buffer = over list second }
+          ≡⟨ ap (λ (n : ℕ). record { answer = Ok n; buffer = over list second }) count ⟩
+          record { answer = Ok k; buffer = over list second } ∎;
     }

@@ -6,24 +6,25 @@ use Prim.Native.Nat.{ℕ, ◌+◌, ◌-◌, ◌<◌, ◌≤◌}
 use native.Mathlib.Omega.{arith}
 use lib.ListN.{length, length-append}
 use lib.Seq.{sets, length-sets}
-use Rattle.gates.specs.Gate.{Gate, Fits, inverse}
-use Rattle.gates.specs.Rule.{decision}
+use Rattle.std.specs.Prelude.{Result, Ok, Err}
+use Rattle.std.specs.Borrow.{Bor}
+use Rattle.gates.specs.Gate.{Gate, inverse}
 use Rattle.circuits.specs.declared.Refusal.{Refusal}
+use Rattle.circuits.specs.declared.Gate.{Gate as GateData}
+use Rattle.circuits.specs.declared.Reader.{Reader}
 use Rattle.circuits.specs.Refusals.{base_limits}
-use Rattle.circuits.specs.Reading.{Reading, read, refused, gate, Circuit, decoded}
+use Rattle.circuits.specs.Reading.{Reading, read, gate, Circuit, decoded}
 use Rattle.circuits.specs.Remaining.{Remaining}
-use Rattle.circuits.specs.Codes.{gate_code}
-use Rattle.circuits.specs.Answers.{control, first_target, last_target}
-use Rattle.circuits.proofs.Answers.{Found}
-use Rattle.circuits.proofs.Readings.{read_value, read_next, refused_read}
+use Rattle.circuits.specs.Answers.{reader_at, gate_data, Says}
 use Rattle.circuits.proofs.Remaining.{remaining_next, decoded_accepted}
-use Rattle.circuits.proofs.Within.{decoded_within, control_small, target_small, second_small}
+use Rattle.circuits.proofs.Within.{decoded_within, gate_fits, control_small, target_small, second_small}
+use Rattle.encodings.specs.declared.Writer.{Writer}
 use Rattle.encodings.specs.Encoding.{number_bytes, gate_bytes, gates_bytes}
 use Rattle.encodings.proofs.Lengths.{gates_long, decoded_ends}
 use Rattle.encodings.proofs.Puts.{sets_before}
 use Rattle.lists.specs.Answers.{Listed}
 use Rattle.inverses.specs.Inverse.{undone}
-use Rattle.inverses.specs.Writing.{undo_bytes, gates_of, gates_said}
+use Rattle.inverses.specs.Writing.{Small, undo_bytes, gates_of, gates_said}
 use Rattle.inverses.proofs.Undoing.{undo_gate}
 use Rattle.inverses.proofs.Undone.{inverse_long, undone_bytes, undone_long}
 
@@ -60,127 +61,132 @@ said s {n} {m} {first} l =
     (subst (λ (k : ℕ). Said s c.qubits k first) l.gates_are
     (subst (Said s c.qubits (length c.gates)) l.first_is (said_circuit s l.was_read)))
 
--- ---- the gate that was read
-
-module _ {m : Reading Gate} {code p q r next : ℕ} (f : Found m code p q r next) where
-  -- three groups hold its mask or control, and its targets
-  pub found_small : (n : ℕ) → n ≤ 16 → Fits n f.g → (p < 2097152) × (q < 2097152) × (r < 2097152)
-  found_small n few fits = (
-    omega (arith, f.of_control, control_small n f.g few fits),
-    omega (arith, f.of_target, target_small n f.g few fits),
-    omega (arith, f.of_second, second_small n f.g few fits),
-  )
-
-  -- the bytes of its inverse, by what was read
-  pub found_bytes : undo_bytes (decision code) p q r ≡ gate_bytes (inverse f.g)
-  found_bytes =
-      let c = gate_code f.g in
-      undo_bytes (decision code) p q r ≡⟨ ap₂ (λ (k j : ℕ). undo_bytes (decision k) j q r) (sym f.of_code) (sym f.of_control) ⟩
-      undo_bytes (decision c) (control f.g) q r ≡⟨ ap₂ (undo_bytes (decision c) (control f.g)) (sym f.of_target) (sym f.of_second) ⟩
-      undo_bytes (decision c) (control f.g) (first_target f.g) (last_target f.g) ≡⟨ undo_gate f.g ⟩
-      gate_bytes (inverse f.g) ∎
-
 -- ---- the loop
 
 -- the gates of `rest` are still to be undone; written from `first` on, their inverses make the whole
-pub record Writing (s : List ℕ) (n first : ℕ) (before buffer : List ℕ) (at left : ℕ) : Type 0 where
+pub record Writing (s : List ℕ) (n m first : ℕ) (before writer : Writer) (reader : Reader) (turn : ℕ) : Type 0 where
   pub rest : List Gate
-  pub left_is : left ≡ length rest
-  pub here : Remaining n s at rest
+  pub left : turn + length rest ≡ m
+  pub same_list : reader.bytes.now ≡ s
+  pub here : Remaining n s reader.at rest
   pub room : first + length (gates_bytes rest) ≤ length s
-  pub long : length buffer ≡ length before
-  pub to_write : sets buffer first (gates_bytes (undone rest)) ≡ sets before first (gates_bytes (undone (gates_said s)))
+  pub same_buffer : writer.buffer.ghost_name ≡ before.buffer.ghost_name
+  pub long : length writer.buffer.now ≡ length before.buffer.now
+  pub to_write : sets writer.buffer.now first (gates_bytes (undone rest)) ≡ sets before.buffer.now first (gates_bytes (undone (gates_said s)))
 
-module _ {s : List ℕ} {n first : ℕ} {before : List ℕ} where
-  pub writing_none : {m : ℕ} → Said s n m first → Writing s n first before before first m
-  writing_none head = record {
-    rest = gates_said s;
-    left_is = sym head.count;
-    here = head.here;
-    room = omega (arith, head.long);
-    long = refl;
-    to_write = refl;
-  }
+pub writing_none : {n m first : ℕ} {list : Bor (List ℕ)} {reader : Reader} (before : Writer) → Said list.now n m first → reader ≡ reader_at list first
+    → Writing list.now n m first before before reader 0
+writing_none {n} {m} {first} {list} before head is = record {
+  rest = gates_said list.now;
+  left = omega (arith, head.count);
+  same_list = ap (λ (r : Reader). r.bytes.now) is;
+  here = rw is head.here;
+  room = omega (arith, head.long);
+  same_buffer = refl;
+  long = refl;
+  to_write = refl;
+}
 
-  module _ {buffer : List ℕ} {at left : ℕ} (w : Writing s n first before buffer at left) where
-    -- ---- none is left
+module _ {s : List ℕ} {n m first : ℕ} {before writer : Writer} {reader : Reader} {turn : ℕ} (w : Writing s n m first before writer reader turn) where
+  -- ---- none is left
 
-    all_by : (rest : List Gate) → w.rest ≡ rest → left ≤ 0 → buffer ≡ sets before first (gates_bytes (undone (gates_said s)))
-    all_by [] e none = ap (λ (gs : List Gate). sets buffer first (gates_bytes (undone gs))) (sym e) ∙ w.to_write
-    all_by (g ∷ rest) e none = absurd (omega (arith, w.left_is, ap length e))
+  all_by : (rest : List Gate) → w.rest ≡ rest → m ≤ turn
+      → writer.buffer.now ≡ sets before.buffer.now first (gates_bytes (undone (gates_said s)))
+  all_by [] e none = ap (λ (gs : List Gate). sets writer.buffer.now first (gates_bytes (undone gs))) (sym e) ∙ w.to_write
+  all_by (g ∷ rest) e none = absurd (omega (arith, w.left, ap length e))
 
-    pub writing_all : left ≤ 0 → buffer ≡ sets before first (gates_bytes (undone (gates_said s)))
-    writing_all = all_by w.rest refl
+  pub writing_all : m ≤ turn → writer.buffer.now ≡ sets before.buffer.now first (gates_bytes (undone (gates_said s)))
+  writing_all = all_by w.rest refl
 
-    -- ---- one is read
+  -- ---- one is read
 
-    record Turn : Type 0 where
-      g : Gate
-      next : ℕ
-      others : List Gate
-      split : w.rest ≡ g ∷ others
-      was_read : gate n s at ≡ read g next
-      here : Remaining n s next others
+  pub record Turn : Type 0 where
+    pub g : Gate
+    pub next : ℕ
+    pub others : List Gate
+    pub split : w.rest ≡ g ∷ others
+    pub was_read : gate n s reader.at ≡ read g next
+    pub here : Remaining n s next others
 
-    turn_by : (rest : List Gate) → w.rest ≡ rest → 0 < left → Turn
-    turn_by [] e some = absurd (omega (arith, w.left_is, ap length e))
-    turn_by (g ∷ others) e some =
-        let step = remaining_next n s at g others (subst (Remaining n s at) e w.here) in
-        record { g = g; next = step.next; others = others; split = e; was_read = step.gate_here; here = step.others }
+  turn_by : (rest : List Gate) → w.rest ≡ rest → turn < m → Turn
+  turn_by [] e some = absurd (omega (arith, w.left, ap length e))
+  turn_by (g ∷ others) e some =
+      let step = remaining_next n s reader.at g others (subst (Remaining n s reader.at) e w.here) in
+      record { g = g; next = step.next; others = others; split = e; was_read = step.gate_here; here = step.others }
 
-    module _ (some : 0 < left) where
-      turn : Turn
-      turn = turn_by w.rest refl some
+  module _ (some : turn < m) (new : Reader) (answer : Result GateData Refusal)
+      (says : Says gate_data (gate n reader.bytes.now reader.at) reader new answer) where
+    pub of_turn : Turn
+    of_turn = turn_by w.rest refl some
 
-      pub never_refused : {r : Refusal} → gate n s at ≡ refused r → ⊥
-      never_refused e = refused_read (sym e ∙ turn.was_read)
+    said_so : Says gate_data (read of_turn.g of_turn.next) reader new answer
+    said_so =
+        let was : gate n reader.bytes.now reader.at ≡ read of_turn.g of_turn.next = ap (λ (l : List ℕ). gate n l reader.at) w.same_list ∙ of_turn.was_read in
+        subst (λ (r : Reading Gate). Says gate_data r reader new answer) was says
 
-      module _ {g : Gate} {next : ℕ} (is : gate n s at ≡ read g next) where
-        -- what follows the gate
-        pub record After : Type 0 where
-          pub others : List Gate
-          pub split : w.rest ≡ g ∷ others
-          pub here : Remaining n s next others
-          pub end : length s ≡ next + length (gates_bytes others)
-          pub room : first + (length (gates_bytes others) + length (gate_bytes (inverse g))) ≤ length s
+    pub never_refused : (why : Refusal) → answer ≡ Err why → ⊥
+    never_refused why e = let both : Ok (gate_data of_turn.g) ≡ Err why = sym said_so.0 ∙ e in cc
 
-        pub after : After
-        after =
-            let t = turn in
-            let same : t.g ≡ g = read_value (sym t.was_read ∙ is) in
-            let split : w.rest ≡ g ∷ t.others = t.split ∙ ap (λ (h : Gate). h ∷ t.others) same in
-            let here : Remaining n s next t.others = subst (λ (k : ℕ). Remaining n s k t.others) (read_next (sym t.was_read ∙ is)) t.here in
-            let bytes = ap (λ (l : List Gate). length (gates_bytes l)) split in
-            record {
-              others = t.others;
-              split = split;
-              here = here;
-              end = gates_long s n next t.others here;
-              room = omega (arith, w.room, bytes, length-append (gate_bytes g) (gates_bytes t.others), inverse_long g);
-            }
+    module _ (what : GateData) (is : answer ≡ Ok what) where
+      same_gate : what ≡ gate_data of_turn.g
+      same_gate = let both : Ok what ≡ Ok (gate_data of_turn.g) = sym is ∙ said_so.0 in cc
 
-        pub writing_more : {now : List ℕ} → now ≡ sets buffer (first + (length s - next)) (gate_bytes (inverse g))
-            → Writing s n first before now next (left - 1)
-        writing_more {now} stored =
-            let a = after in
-            let bytes = gate_bytes (inverse g) in
-            let others = gates_bytes (undone a.others) in
-            let count : length w.rest ≡ length (g ∷ a.others) = ap length a.split in
-            let place : first + (length s - next) ≡ first + length others = omega (arith, a.end, undone_long a.others) in
-            record {
-              rest = a.others;
-              left_is = omega (arith, w.left_is, count);
-              here = a.here;
-              room = omega (arith, a.room);
-              long = ap length stored ∙ length-sets buffer (first + (length s - next)) bytes ∙ w.long;
-              to_write =
-                  sets now first others ≡⟨ ap (λ (l : List ℕ). sets l first others) stored ⟩
-                  sets (sets buffer (first + (length s - next)) bytes) first others
-                  ≡⟨ ap (λ (k : ℕ). sets (sets buffer k bytes) first others) place ⟩
-                  sets (sets buffer (first + length others) bytes) first others ≡⟨ sets_before buffer first others bytes ⟩
-                  sets buffer first (others ++ bytes) ≡⟨ ap (sets buffer first) (sym (undone_bytes g a.others)) ⟩
-                  sets buffer first (gates_bytes (undone (g ∷ a.others)))
-                  ≡⟨ ap (λ (gs : List Gate). sets buffer first (gates_bytes (undone gs))) (sym a.split) ⟩
-                  sets buffer first (gates_bytes (undone w.rest)) ≡⟨ w.to_write ⟩
-                  sets before first (gates_bytes (undone (gates_said s))) ∎;
-            }
+      next_at : new.at ≡ of_turn.next
+      next_at = ap (λ (r : Reader). r.at) said_so.1
+
+      -- its place, and what follows it
+      pub record After : Type 0 where
+        pub small : n ≤ 16 → Small what
+        pub bytes : undo_bytes what ≡ gate_bytes (inverse of_turn.g)
+        pub end : length s ≡ new.at + length (gates_bytes of_turn.others)
+        pub room : first + (length (gates_bytes of_turn.others) + length (undo_bytes what)) ≤ length s
+
+      pub after : After
+      after =
+          let t = of_turn in
+          let here : Remaining n s new.at t.others = subst (λ (k : ℕ). Remaining n s k t.others) (sym next_at) t.here in
+          let bytes : undo_bytes what ≡ gate_bytes (inverse t.g) = ap undo_bytes same_gate ∙ undo_gate t.g in
+          record {
+            small = λ few. let fits = gate_fits n s reader.at t.was_read in
+                subst Small (sym same_gate)
+                (omega (arith, control_small n t.g few fits), omega (arith, target_small n t.g few fits), omega (arith, second_small n t.g few fits));
+            bytes = bytes;
+            end = gates_long s n new.at t.others here;
+            room = omega (
+              arith,
+              w.room,
+              ap (λ (l : List Gate). length (gates_bytes l)) t.split,
+              length-append (gate_bytes t.g) (gates_bytes t.others),
+              inverse_long t.g,
+              ap length bytes,
+            );
+          }
+
+      pub writing_more : (now : Writer) → now.buffer.ghost_name ≡ writer.buffer.ghost_name
+          → now.buffer.now ≡ sets writer.buffer.now (first + (length s - new.at)) (undo_bytes what)
+          → Writing s n m first before now new (turn + 1)
+      writing_more now same stored =
+          let a = after in
+          let t = of_turn in
+          let bytes = gate_bytes (inverse t.g) in
+          let others = gates_bytes (undone t.others) in
+          let place : first + (length s - new.at) ≡ first + length others = omega (arith, a.end, undone_long t.others) in
+          let put : now.buffer.now ≡ sets writer.buffer.now (first + length others) bytes =
+          stored ∙ ap₂ (λ (k : ℕ) (l : List ℕ). sets writer.buffer.now k l) place a.bytes in
+          record {
+            rest = t.others;
+            left = omega (arith, w.left, ap length t.split);
+            same_list = ap (λ (r : Reader). r.bytes.now) said_so.1 ∙ w.same_list;
+            here = subst (λ (k : ℕ). Remaining n s k t.others) (sym next_at) t.here;
+            room = omega (arith, a.room);
+            same_buffer = same ∙ w.same_buffer;
+            long = ap length put ∙ length-sets writer.buffer.now (first + length others) bytes ∙ w.long;
+            to_write =
+                sets now.buffer.now first others ≡⟨ ap (λ (l : List ℕ). sets l first others) put ⟩
+                sets (sets writer.buffer.now (first + length others) bytes) first others ≡⟨ sets_before writer.buffer.now first others bytes ⟩
+                sets writer.buffer.now first (others ++ bytes) ≡⟨ ap (sets writer.buffer.now first) (sym (undone_bytes t.g t.others)) ⟩
+                sets writer.buffer.now first (gates_bytes (undone (t.g ∷ t.others)))
+                ≡⟨ ap (λ (gs : List Gate). sets writer.buffer.now first (gates_bytes (undone gs))) (sym t.split) ⟩
+                sets writer.buffer.now first (gates_bytes (undone w.rest)) ≡⟨ w.to_write ⟩
+                sets before.buffer.now first (gates_bytes (undone (gates_said s))) ∎;
+          }

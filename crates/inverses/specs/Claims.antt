@@ -1,10 +1,9 @@
 -- What is claimed of the bytes that the writer of the inverse has written. Definitions only; that it holds is in proofs/Twice.antt.
-use Rattle.std.specs.Prelude.{◌≡◌, List, ℕ, ◌≤◌, length, take}
+use Rattle.std.specs.Prelude.{◌≡◌, List, ℕ, ◌≤◌, length, take, Ok}
 use Rattle.circuits.specs.Refusals.{base_limits}
 use Rattle.circuits.specs.Reading.{read, Circuit, decoded}
 use Rattle.encodings.specs.Encoding.{Decodes}
 use Rattle.stores.specs.Columns.{over}
-use Rattle.inverses.specs.declared.Written.TheVariants.{Bytes}
 use Rattle.inverses.specs.Inverse.{undone, inverted}
 
 -- the call on this list with this buffer wrote k bytes
@@ -19,4 +18,4 @@ module _ (list buffer : List ℕ) (k : ℕ) where
     -- they are read as the gates "in opposite order, each by its inverse"
     pub decodes : Decodes base_limits written c.qubits (undone c.gates)
     -- "Doing it twice gives back the first bytes", in any buffer that has room for them
-    pub back : (second : List ℕ) → k ≤ length second → inverted written second ≡ record { answer = Bytes k; buffer = over list second }
+    pub back : (second : List ℕ) → k ≤ length second → inverted written second ≡ record { answer = Ok k; buffer = over list second }

@@ -1,25 +1,29 @@
 -- What the functions below the writer of the inverse ask and write. Definitions only.
-use Rattle.std.specs.Prelude.{cond, List, [], ◌++◌, ℕ, eqb}
+use Rattle.std.specs.Prelude.{cond, List, [], ◌++◌, ℕ, ◌<◌, eqb}
 use Rattle.gates.specs.Gate.{Gate}
+use Rattle.gates.specs.Code.{code_number}
+use Rattle.gates.specs.Rule.{code_rule}
 use Rattle.gates.specs.declared.Operands.{Operands}
 use Rattle.gates.specs.declared.Operands.TheVariants.{Qubit, Controlled, Masked}
-use Rattle.gates.specs.declared.Decision.{Decision}
-use Rattle.gates.specs.declared.Decision.TheVariants.{Known, Unknown}
+use Rattle.circuits.specs.declared.Gate.{Gate as GateData}
 use Rattle.circuits.specs.Refusals.{base_limits}
 use Rattle.circuits.specs.Reading.{Reading, read, refused, Circuit, decoded}
 use Rattle.encodings.specs.Encoding.{number_bytes}
 
+-- three groups hold the mask or the control of a gate, and its targets
+abbrev pub Small : GateData → Type 0
+Small g = (g.control < 2097152) × (g.target < 2097152) × (g.second < 2097152)
+
 -- what follows a gate's code, by the form that its data have: the control or the mask where there is one, the target, and the second
 -- target of a gate that has two
-abbrev pub data_bytes : Operands → ℕ → ℕ → ℕ → List ℕ
-data_bytes Qubit p q r = number_bytes q
-data_bytes Controlled p q r = number_bytes p ++ number_bytes q
-data_bytes (Masked least targets) p q r = (number_bytes p ++ number_bytes q) ++ cond (eqb targets 2) (number_bytes r) []
+abbrev pub data_bytes : Operands → GateData → List ℕ
+data_bytes Qubit g = number_bytes g.target
+data_bytes Controlled g = number_bytes g.control ++ number_bytes g.target
+data_bytes (Masked least targets) g = (number_bytes g.control ++ number_bytes g.target) ++ cond (eqb targets 2) (number_bytes g.second) []
 
--- the bytes of a gate's inverse, by the data of the gate's code, its control or mask and its targets: none for a code that has none
-abbrev pub undo_bytes : Decision → ℕ → ℕ → ℕ → List ℕ
-undo_bytes (Known rule) p q r = number_bytes rule.inverse ++ data_bytes rule.operands p q r
-undo_bytes Unknown p q r = []
+-- the bytes of a gate's inverse, by the data of the gate's code, its control or mask and its targets
+abbrev pub undo_bytes : GateData → List ℕ
+undo_bytes g = number_bytes (code_number (code_rule g.code).inverse) ++ data_bytes (code_rule g.code).operands g
 
 -- the gates of a list, none where it is refused
 abbrev pub gates_of : Reading Circuit → List Gate

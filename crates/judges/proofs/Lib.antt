@@ -1,4 +1,3 @@
 pub mod Passing
-pub mod Scratches
 pub mod Reports
 pub mod Demands

@@ -1,11 +1,10 @@
 -- A pair that passed the checks: what the run asks of it, and its answer.
 -- Assumes nothing.
-use mathlib.Core.Path.{◌≡◌, refl, sym, ◌∙◌, ap, subst, subst₂}
+use mathlib.Core.Path.{◌≡◌, refl, sym, ◌∙◌, ap, subst}
 use mathlib.Core.List.{List}
 use Prim.Native.Nat.{ℕ}
-use native.Mathlib.Omega.{arith}
-use lib.IntN.{ℤ}
 use lib.ListN.{length}
+use Rattle.std.specs.Prelude.{Ok, Err}
 use Rattle.circuits.specs.Refusals.{base_limits}
 use Rattle.circuits.specs.Reading.{Circuit}
 use Rattle.circuits.specs.Within.{Within}
@@ -19,11 +18,12 @@ use Rattle.miters.specs.Miter.{steps}
 use Rattle.miters.specs.Report.{refused}
 use Rattle.miters.specs.Run.{ended, outcome, judged}
 use Rattle.plans.specs.declared.Sizes.{Sizes}
+use Rattle.plans.specs.declared.Scratch.{Scratch as LentScratch}
 use Rattle.steps.specs.Stepping.{Scratch, lent_with}
 use Rattle.choices.specs.declared.Offsets.{Offsets}
 use Rattle.runs.specs.Running.{Task}
 use Rattle.checks.specs.declared.Lengths.{Lengths}
-use Rattle.checks.specs.declared.Checked.TheVariants.{Refused, Pair}
+use Rattle.checks.specs.declared.Pair.{Pair}
 use Rattle.checks.specs.Checks.{lengths, Checks, refuses, passes, checks, checked}
 use Rattle.judges.specs.Answer.{lent, answer_by, answer}
 use Rattle.judges.specs.Calls.{Passed, AtMost, leaving}
@@ -33,14 +33,13 @@ use Rattle.checks.proofs.Rules.{both_hold, first_long, second_long}
 
 -- what the run is given, and that the answer is its outcome
 pub record Running (u v schedule : List ℕ) (n : ℕ) (offsets : Offsets) (sizes : Sizes) (first second : Columns)
-    (terminals : List ℤ) (node_index value_index memo : List ℕ) : Type 0 where
-  pub task : Task u v schedule n offsets sizes first second terminals node_index value_index memo
+    (lent_scratch : LentScratch) : Type 0 where
+  pub task : Task u v schedule n offsets sizes first second lent_scratch
   pub answer_is : let lent = lent_with sizes task.N task.L in
       answer u v schedule sizes.width first second ≡ outcome lent n (ended lent n (steps schedule task.us task.vs))
 
-module _ (u v schedule : List ℕ) (sizes : Sizes) (first second : Columns) (offsets : Offsets)
-    (terminals : List ℤ) (node_index value_index memo : List ℕ)
-    (scratch : Scratch (length first.level) (length first.a) sizes terminals node_index value_index memo) where
+module _ (u v schedule : List ℕ) (sizes : Sizes) (first second : Columns) (offsets : Offsets) (lent_scratch : LentScratch)
+    (scratch : Scratch (length first.level) (length first.a) sizes lent_scratch) where
   answer_judged : {c d : Circuit} → checks u v schedule sizes.width (lengths first) (lengths second) ≡ passes c d
       → answer u v schedule sizes.width first second
       ≡ outcome (lent sizes.width first) c.qubits (ended (lent sizes.width first) c.qubits (steps schedule c.gates d.gates))
@@ -49,7 +48,7 @@ module _ (u v schedule : List ℕ) (sizes : Sizes) (first second : Columns) (off
 
   read_running : {c d : Circuit} → checks u v schedule sizes.width (lengths first) (lengths second) ≡ passes c d
       → Checking u v schedule sizes.width (lengths first) (lengths second) (passes c d)
-      → Running u v schedule c.qubits (record { first = c.first; second = d.first }) sizes first second terminals node_index value_index memo
+      → Running u v schedule c.qubits (record { first = c.first; second = d.first }) sizes first second lent_scratch
   read_running {c} {d} come (all_hold both one_count fitting) = record {
     task = record {
       us = c.gates;
@@ -69,26 +68,27 @@ module _ (u v schedule : List ℕ) (sizes : Sizes) (first second : Columns) (off
     answer_is = answer_judged come;
   }
 
-  checked_running : (n : ℕ) (x : Checks) → checks u v schedule sizes.width (lengths first) (lengths second) ≡ x → checked x ≡ Pair n offsets
-      → Running u v schedule n offsets sizes first second terminals node_index value_index memo
-  checked_running n (refuses why) come e = let z : ◌≡◌ {A = ℕ} 0 1 = cc in absurd (omega arith)
+  checked_running : (n : ℕ) (x : Checks) → checks u v schedule sizes.width (lengths first) (lengths second) ≡ x
+      → checked x ≡ Ok (record { n = n; offsets = offsets })
+      → Running u v schedule n offsets sizes first second lent_scratch
+  checked_running n (refuses why) come e = cc
   checked_running n (passes c d) come e =
       let table = subst (Checking u v schedule sizes.width (lengths first) (lengths second)) come
       (checks_checking u v schedule sizes.width (lengths first) (lengths second)) in
-      let qubits : c.qubits ≡ n = cc in
-      let gates : record { first = c.first; second = d.first } ≡ offsets = cc in
-      subst₂ (λ (k : ℕ) (o : Offsets). Running u v schedule k o sizes first second terminals node_index value_index memo) qubits gates
+      let found : Pair = record { n = c.qubits; offsets = record { first = c.first; second = d.first } } in
+      let same : found ≡ record { n = n; offsets = offsets } = cc in
+      subst (λ (p : Pair). Running u v schedule p.n p.offsets sizes first second lent_scratch) same
       (read_running come table)
 
   pub passed_running : (n : ℕ) → Passed u v schedule sizes.width first second n offsets
-      → Running u v schedule n offsets sizes first second terminals node_index value_index memo
+      → Running u v schedule n offsets sizes first second lent_scratch
   passed_running n e = checked_running n (checks u v schedule sizes.width (lengths first) (lengths second)) refl e
 
 pub passed_task : {u v schedule : List ℕ} {n : ℕ} {offsets : Offsets} {sizes : Sizes} {first second : Columns}
-    {terminals : List ℤ} {node_index value_index memo : List ℕ} → Passed u v schedule sizes.width first second n offsets
-    → Scratch (length first.level) (length first.a) sizes terminals node_index value_index memo
-    → Task u v schedule n offsets sizes first second terminals node_index value_index memo
-passed_task e scratch = (passed_running _ _ _ _ _ _ _ _ _ _ _ scratch _ e).task
+    {lent_scratch : LentScratch} → Passed u v schedule sizes.width first second n offsets
+    → Scratch (length first.level) (length first.a) sizes lent_scratch
+    → Task u v schedule n offsets sizes first second lent_scratch
+passed_task e scratch = (passed_running _ _ _ _ _ _ _ _ scratch _ e).task
 
 -- ---- before the run
 
@@ -99,21 +99,23 @@ module _ (u v schedule : List ℕ) (w : ℕ) (first : Columns) (second : Lengths
       let ruled = (both_hold (lengths first) second both.lent_well.rules).of_first in
       record { nodes = ruled.few_nodes; values = ruled.few_values }
 
-  at_most_by : {n : ℕ} {offsets : Offsets} (x : Checks) → Checking u v schedule w (lengths first) second x → checked x ≡ Pair n offsets
+  at_most_by : {n : ℕ} {offsets : Offsets} (x : Checks) → Checking u v schedule w (lengths first) second x
+      → checked x ≡ Ok (record { n = n; offsets = offsets })
       → AtMost 65536 first
-  at_most_by (refuses why) line e = let z : ◌≡◌ {A = ℕ} 0 1 = cc in absurd (omega arith)
+  at_most_by (refuses why) line e = cc
   at_most_by (passes c d) line e = pass_at_most line
 
-  pub passed_at_most : {n : ℕ} {offsets : Offsets} → checked (checks u v schedule w (lengths first) second) ≡ Pair n offsets → AtMost 65536 first
+  pub passed_at_most : {n : ℕ} {offsets : Offsets}
+      → checked (checks u v schedule w (lengths first) second) ≡ Ok (record { n = n; offsets = offsets }) → AtMost 65536 first
   passed_at_most e = at_most_by (checks u v schedule w (lengths first) second) (checks_checking u v schedule w (lengths first) second) e
 
 -- a refusal before the run leaves the stores alone
 module _ (u v schedule : List ℕ) (w : ℕ) (first second : Columns) where
-  refused_by : {why : Refusal} (x : Checks) → checked x ≡ Refused why → answer_by schedule w first second x ≡ leaving (refused why) first second
+  refused_by : {why : Refusal} (x : Checks) → checked x ≡ Err why → answer_by schedule w first second x ≡ leaving (refused why) first second
   refused_by {why} (refuses other) e = let same : other ≡ why = cc in ap (λ (r : Refusal). leaving (refused r) first second) same
-  refused_by (passes c d) e = let z : ◌≡◌ {A = ℕ} 0 1 = cc in absurd (omega arith)
+  refused_by (passes c d) e = cc
 
-  pub refused_answer : {why : Refusal} {report : Report} → checked (checks u v schedule w (lengths first) (lengths second)) ≡ Refused why
+  pub refused_answer : {why : Refusal} {report : Report} → checked (checks u v schedule w (lengths first) (lengths second)) ≡ Err why
       → report ≡ refused why → leaving report first second ≡ answer u v schedule w first second
   unfolding answer
   refused_answer e reported =

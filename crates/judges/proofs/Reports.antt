@@ -1,15 +1,18 @@
 -- What is kept and reported of a run that ended is the outcome that the paper defines.
 -- Assumes nothing.
-use mathlib.Core.Path.{◌≡◌, sym, ◌∙◌, ap}
+use mathlib.Core.Path.{◌≡◌, sym, ◌∙◌, ap, subst}
 use mathlib.Core.List.{List}
 use Prim.Native.Nat.{ℕ, ◌-◌, ◌≤◌}
 use native.Mathlib.Omega.{arith}
-use lib.IntN.{ℤ, pos}
+use lib.IntN.{pos}
 use lib.ListN.{length, take, replicate}
+use Rattle.std.specs.Prelude.{Result}
 use Rattle.algebra.specs.Matrix.{Matrix}
 use Rattle.diagrams.specs.Diagram.{node, diagram}
-use Rattle.stores.specs.Columns.{Columns, column, held, cleared, wiped, NodeColumns, ValueColumns}
+use Rattle.stores.specs.Columns.{Columns, columns_of, column, held, cleared, wiped, NodeColumns, ValueColumns, SameColumns}
+use Rattle.stores.specs.declared.Store.{Store as LentStore}
 use Rattle.stores.proofs.Stores.{wiped_held}
+use Rattle.miters.specs.declared.Refusal.{Refusal}
 use Rattle.miters.specs.declared.Report.{Report}
 use Rattle.miters.specs.Report.{finished}
 use Rattle.miters.specs.Miter.{steps}
@@ -18,10 +21,12 @@ use Rattle.cofactors.specs.Slots.{store_in}
 use Rattle.searches.proofs.Held.{store_held, diagram_searchable, diagram_verdict}
 use Rattle.plans.specs.declared.Used.{Used}
 use Rattle.plans.specs.declared.Sizes.{Sizes}
+use Rattle.plans.specs.declared.Scratch.{Scratch as LentScratch}
 use Rattle.steps.specs.Stepping.{Source, Long, Scratch, lent_with}
 use Rattle.choices.specs.declared.Offsets.{Offsets}
-use Rattle.runs.specs.declared.End.{End}
+use Rattle.runs.specs.declared.Finish.{Finish}
 use Rattle.runs.specs.Running.{Task, Ran, ran, refused, Left}
+use Rattle.runs.proofs.Stores.{long_same}
 use Rattle.judges.specs.Answer.{answer}
 use Rattle.endings.specs.Ending.{kept, Readable, report_of}
 use Rattle.judges.specs.Calls.{Passed, leaving}
@@ -47,7 +52,7 @@ wiped_cleared {C = C} long i = record {
 -- ---- slots that are there
 
 abbrev pub Slots : ℕ → ℕ → Columns → Type 0
-Slots nodes values C = NodeColumns C.level C.low C.high nodes × ValueColumns C.a C.b C.c C.d values
+Slots nodes values C = NodeColumns C nodes × ValueColumns C values
 
 long_slots : {N L : ℕ} {C : Columns} (nodes values : ℕ) → Long N L C → nodes ≤ N → values ≤ L → Slots nodes values C
 long_slots nodes values long in_nodes in_values = (
@@ -96,14 +101,14 @@ module _ {N L n : ℕ} {M : Matrix} {used : Used} {C : Columns} (source : Source
 
 module _ {lent : Lent} {n : ℕ} {C : Columns} where
   -- the slots kept are there
-  pub ran_slots : {e : Ended} {r : End} → Ran lent n C e r → (used : Used) → used ≡ kept r → Long lent.nodes lent.values C
+  pub ran_slots : {e : Ended} {r : Result Finish Refusal} → Ran lent n C e r → (used : Used) → used ≡ kept r → Long lent.nodes lent.values C
       → Slots used.nodes used.values C
   ran_slots (ran {used = it} source) used is long =
       rw is (long_slots it.nodes it.values long (used_nodes source) (used_values source))
   ran_slots refused used is long = rw is (no_slots long)
 
   -- and hold a diagram that is searched
-  pub ran_readable : {e : Ended} {r : End} → Ran lent n C e r → (used : Used) → used ≡ kept r → 1 ≤ n → n ≤ 16
+  pub ran_readable : {e : Ended} {r : Result Finish Refusal} → Ran lent n C e r → (used : Used) → used ≡ kept r → 1 ≤ n → n ≤ 16
       → lent.nodes ≤ 65536 → lent.values ≤ 65536
       → (C' : Columns) → Long lent.nodes lent.values C' → C' ≡ wiped used.nodes used.values C → Readable n C' r
   ran_readable (ran {M = M} {used = it} source) used is some few few_nodes few_values C' long wiped_is =
@@ -116,7 +121,7 @@ module _ {lent : Lent} {n : ℕ} {C : Columns} where
   ran_readable refused used is some few few_nodes few_values C' long wiped_is = tt
 
   -- the report and the stores are the outcome
-  pub ran_outcome : {e : Ended} {r : End} → Ran lent n C e r → (used : Used) → used ≡ kept r → Long lent.nodes lent.values C
+  pub ran_outcome : {e : Ended} {r : Result Finish Refusal} → Ran lent n C e r → (used : Used) → used ≡ kept r → Long lent.nodes lent.values C
       → (C' : Columns) → C' ≡ wiped used.nodes used.values C
       → {D : Columns} → Long lent.nodes lent.values D → {D' : Columns} → D' ≡ wiped 0 0 D
       → {report : Report} → report ≡ report_of n C' r → leaving report C' D' ≡ outcome lent n e
@@ -138,62 +143,41 @@ module _ {lent : Lent} {n : ℕ} {C : Columns} where
 
 -- ---- from the run to the answer
 
--- columns as long as those before
-pub record SameLengths (C C' : Columns) : Type 0 where
-  pub of_level : length C'.level ≡ length C.level
-  pub of_low : length C'.low ≡ length C.low
-  pub of_high : length C'.high ≡ length C.high
-  pub of_a : length C'.a ≡ length C.a
-  pub of_b : length C'.b ≡ length C.b
-  pub of_c : length C'.c ≡ length C.c
-  pub of_d : length C'.d ≡ length C.d
-
-still_long : {N L : ℕ} {C C' : Columns} → Long N L C → SameLengths C C' → Long N L C'
-still_long long same = record {
-  of_level = same.of_level ∙ long.of_level;
-  of_low = same.of_low ∙ long.of_low;
-  of_high = same.of_high ∙ long.of_high;
-  of_a = same.of_a ∙ long.of_a;
-  of_b = same.of_b ∙ long.of_b;
-  of_c = same.of_c ∙ long.of_c;
-  of_d = same.of_d ∙ long.of_d;
-}
-
 -- a run of a pair that passed the checks: what it left in the stores, and how it ended
-pub record Run_over (u v schedule : List ℕ) (n : ℕ) (offsets : Offsets) (sizes : Sizes) (first second : Columns)
-    (terminals : List ℤ) (node_index value_index memo : List ℕ) (C D : Columns) (r : End) : Type 0 where
-  pub left : Left u v schedule n offsets sizes first second terminals node_index value_index memo C r
-  pub passed : Passed u v schedule sizes.width first second n offsets
-  pub scratch : Scratch (length first.level) (length first.a) sizes terminals node_index value_index memo
-  pub first_same : SameLengths first C
-  pub second_same : SameLengths second D
+pub record Run_over (u v schedule : List ℕ) (n : ℕ) (offsets : Offsets) (sizes : Sizes) (first second : LentStore)
+    (lent_scratch : LentScratch) (first' second' : LentStore) (r : Result Finish Refusal) : Type 0 where
+  pub left : Left u v schedule n offsets sizes (columns_of first) (columns_of second) lent_scratch (columns_of first') r
+  pub passed : Passed u v schedule sizes.width (columns_of first) (columns_of second) n offsets
+  pub scratch : Scratch (length first.level.now) (length first.a.now) sizes lent_scratch
+  pub first_same : SameColumns first first'
+  pub second_same : SameColumns second second'
 
-module _ {u v schedule : List ℕ} {n : ℕ} {offsets : Offsets} {sizes : Sizes} {first second : Columns}
-    {terminals : List ℤ} {node_index value_index memo : List ℕ} {C D : Columns} {r : End}
-    (over : Run_over u v schedule n offsets sizes first second terminals node_index value_index memo C D r) where
-  abbrev running : Running u v schedule n offsets sizes first second terminals node_index value_index memo
-  running = passed_running u v schedule sizes first second offsets terminals node_index value_index memo over.scratch n over.passed
+module _ {u v schedule : List ℕ} {n : ℕ} {offsets : Offsets} {sizes : Sizes} {first second : LentStore}
+    {lent_scratch : LentScratch} {first' second' : LentStore} {r : Result Finish Refusal}
+    (over : Run_over u v schedule n offsets sizes first second lent_scratch first' second' r) where
+  abbrev running : Running u v schedule n offsets sizes (columns_of first) (columns_of second) lent_scratch
+  running = passed_running u v schedule sizes (columns_of first) (columns_of second) offsets lent_scratch over.scratch n over.passed
 
-  abbrev task : Task u v schedule n offsets sizes first second terminals node_index value_index memo
+  abbrev task : Task u v schedule n offsets sizes (columns_of first) (columns_of second) lent_scratch
   task = running.task
 
   abbrev its_lent : Lent
   its_lent = lent_with sizes task.N task.L
 
-  its_end : Ran its_lent n C (ended its_lent n (steps schedule task.us task.vs)) r
+  its_end : Ran its_lent n (columns_of first') (ended its_lent n (steps schedule task.us task.vs)) r
   its_end = over.left task
 
-  first_still : Long task.N task.L C
-  first_still = still_long task.first_long over.first_same
+  first_still : Long task.N task.L (columns_of first')
+  first_still = long_same {s = first} {s' = first'} task.first_long over.first_same
 
-  second_still : Long task.N task.L D
-  second_still = still_long task.second_long over.second_same
+  second_still : Long task.N task.L (columns_of second')
+  second_still = long_same {s = second} {s' = second'} task.second_long over.second_same
 
-  pub second_slots : Slots 0 0 D
+  pub second_slots : Slots 0 0 (columns_of second')
   second_slots = no_slots second_still
 
   module _ (used : Used) (used_is : used ≡ kept r) where
-    pub first_slots : Slots used.nodes used.values C
+    pub first_slots : Slots used.nodes used.values (columns_of first')
     first_slots = ran_slots its_end used used_is first_still
 
     pub few_kept : (used.nodes ≤ 65536) × (used.values ≤ 65536)
@@ -203,12 +187,13 @@ module _ {u v schedule : List ℕ} {n : ℕ} {offsets : Offsets} {sizes : Sizes}
           omega (arith, values.in_a, first_still.of_a, task.scratch.few_values),
         )
 
-    module _ (C' : Columns) (wiped_is : C' ≡ wiped used.nodes used.values C) where
-      pub over_readable : SameLengths C C' → Readable n C' r
-      over_readable same = ran_readable its_end used used_is task.within_u.some_qubit task.within_u.few_qubits
-          task.scratch.few_nodes task.scratch.few_values C' (still_long first_still same) wiped_is
+    module _ (C' : Columns) (wiped_is : C' ≡ wiped used.nodes used.values (columns_of first')) where
+      pub over_readable : {last : LentStore} → columns_of last ≡ C' → SameColumns first' last → Readable n C' r
+      over_readable {last} is same = ran_readable its_end used used_is task.within_u.some_qubit task.within_u.few_qubits
+          task.scratch.few_nodes task.scratch.few_values C'
+          (subst (Long task.N task.L) is (long_same {s = first'} {s' = last} first_still same)) wiped_is
 
-      pub over_answer : (D' : Columns) → D' ≡ wiped 0 0 D → {report : Report} → report ≡ report_of n C' r
-          → leaving report C' D' ≡ answer u v schedule sizes.width first second
+      pub over_answer : (D' : Columns) → D' ≡ wiped 0 0 (columns_of second') → {report : Report} → report ≡ report_of n C' r
+          → leaving report C' D' ≡ answer u v schedule sizes.width (columns_of first) (columns_of second)
       over_answer D' other_is reported =
           ran_outcome its_end used used_is first_still C' wiped_is second_still other_is reported ∙ sym running.answer_is

@@ -1,455 +1,157 @@
 // The call that judges two gate lists: the checks, the run, the report, and what the stores hold then.
 #![tactic(auto)]
 
-ghost use Rattle.std.specs.Prelude.{◌≡◌, length};
-ghost use Rattle.stores.specs.Columns.{columns};
-ghost use Rattle.steps.specs.Stepping.{Scratch};
+ghost use Rattle.std.specs.Prelude.{◌≡◌, ◌+◌, ◌*◌, ◌≤◌, length};
+ghost use Rattle.stores.specs.Columns.{columns_of, SameColumns};
+ghost use Rattle.steps.specs.Stepping as stepping;
 ghost use Rattle.judges.specs.Answer.{answer};
-ghost use Rattle.judges.specs.Calls.{Passed, AtMost, leaving};
+ghost use Rattle.judges.specs.Calls.{Passed, AtMost, Roomy, leaving};
 
-use checks::{Checked, Lengths};
-use choices::Offsets;
+use algebra::Entry;
+use checks::Pair;
 use miters::Report;
-use plans::Sizes;
+use plans::{Scratch, Sizes};
+use runs::Course;
+use stores::Store;
 
 // The slots kept of the second store.
 const NOTHING: usize = 0;
 
-// The sizes of scratch, and the most nodes and values of a store that the small one serves.
-const SMALL: u32 = 0;
-
-const LARGE: u32 = 1;
-
+// The scratch for stores of up to 4,096 nodes and values: as many terminals, the slots of an index (one for each of them, and 8,192
+// heads), and those of the computed table (6 for each of them, and 4 for each of 32,768 entries).
 const SMALL_STORE: usize = 4096;
+
+const SMALL_INDEX: usize = 12_288;
+
+const SMALL_TABLE: usize = 155_648;
+
+// The same for stores of any lengths that the rules allow: 65,536 heads and as many entries.
+const LARGE_STORE: usize = 65_536;
+
+const LARGE_INDEX: usize = 131_072;
+
+const LARGE_TABLE: usize = 655_360;
+
+const ZERO: Entry = Entry {
+    a: 0,
+    b: 0,
+    c: 0,
+    d: 0,
+};
 
 // The run of a pair that passed the checks, in scratch that has room for it; the second store and what the first does not keep become 0.
 fn judge_in(
-    u: &[u8],
-    v: &[u8],
-    schedule: &[u8],
-    n: u32,
-    offsets: Offsets,
+    course: &Course<'_>,
     sizes: Sizes,
-    level: &mut [u32],
-    low: &mut [u32],
-    high: &mut [u32],
-    a: &mut [i32],
-    b: &mut [i32],
-    c: &mut [i32],
-    d: &mut [i32],
-    other_level: &mut [u32],
-    other_low: &mut [u32],
-    other_high: &mut [u32],
-    other_a: &mut [i32],
-    other_b: &mut [i32],
-    other_c: &mut [i32],
-    other_d: &mut [i32],
-    terminals: &mut [i32],
-    node_index: &mut [u32],
-    value_index: &mut [u32],
-    memo: &mut [u32],
+    first: &mut Store<'_>,
+    second: &mut Store<'_>,
+    scratch: &mut Scratch<'_>,
 ) -> Report
-    requires passed { Passed u.now v.now schedule.now sizes.width
-        (columns level.old low.old high.old a.old b.old c.old d.old)
-        (columns other_level.old other_low.old other_high.old other_a.old other_b.old other_c.old other_d.old) n offsets }
-    requires scratch { Scratch (length level.old) (length a.old) sizes terminals.old node_index.old value_index.old memo.old }
-    ensures { leaving result
-        (columns level.new low.new high.new a.new b.new c.new d.new)
-        (columns other_level.new other_low.new other_high.new
-        other_a.new other_b.new other_c.new other_d.new)
-        ≡ answer u.now v.now schedule.now sizes.width
-        (columns level.old low.old high.old a.old b.old c.old d.old)
-        (columns other_level.old other_low.old other_high.old
-        other_a.old other_b.old other_c.old other_d.old) }
+    requires passed { Passed course.now.u.now course.now.v.now course.now.schedule.now sizes.width
+        (columns_of first.old) (columns_of second.old) course.now.n course.now.offsets }
+    requires scratch { stepping.Scratch (length first.old.level.now) (length first.old.a.now) sizes scratch.old }
+    ensures answer { leaving result (columns_of first.new) (columns_of second.new)
+        ≡ answer course.now.u.now course.now.v.now course.now.schedule.now sizes.width (columns_of first.old) (columns_of second.old) }
+    ensures same_first { SameColumns first.old first.new }
+    ensures same_second { SameColumns second.old second.new }
 {
-    let ended = runs::run(
-        u,
-        v,
-        schedule,
-        n,
-        offsets,
-        sizes,
-        level,
-        low,
-        high,
-        a,
-        b,
-        c,
-        d,
-        other_level,
-        other_low,
-        other_high,
-        other_a,
-        other_b,
-        other_c,
-        other_d,
-        terminals,
-        node_index,
-        value_index,
-        memo,
-    );
-    stores::wipe(
-        other_level,
-        other_low,
-        other_high,
-        other_a,
-        other_b,
-        other_c,
-        other_d,
-        NOTHING,
-        NOTHING,
-    );
+    let ended = runs::run(course, sizes, first, second, scratch);
+    second.wipe(NOTHING, NOTHING);
     let used = endings::kept(ended);
-    stores::wipe(
-        level,
-        low,
-        high,
-        a,
-        b,
-        c,
-        d,
-        used.nodes as usize,
-        used.values as usize,
-    );
-    endings::report(level, low, high, a, b, c, d, n, ended)
+    first.wipe(used.nodes as usize, used.values as usize);
+    endings::report(&first.view(), course.n, ended)
 }
 
-// Stores of up to 4,096 nodes and values: scratch of 786,432 bytes, in a frame of its own.
+// The run in scratch for stores of up to STORE nodes and values, in a frame of its own: 786,432 bytes at the small sizes, 4,718,592
+// at the large ones.
 #[inline(never)]
-fn judge_small(
-    u: &[u8],
-    v: &[u8],
-    schedule: &[u8],
-    n: u32,
-    offsets: Offsets,
+fn judge_within<const STORE: usize, const INDEX: usize, const TABLE: usize>(
+    course: &Course<'_>,
     width: u32,
-    level: &mut [u32],
-    low: &mut [u32],
-    high: &mut [u32],
-    a: &mut [i32],
-    b: &mut [i32],
-    c: &mut [i32],
-    d: &mut [i32],
-    other_level: &mut [u32],
-    other_low: &mut [u32],
-    other_high: &mut [u32],
-    other_a: &mut [i32],
-    other_b: &mut [i32],
-    other_c: &mut [i32],
-    other_d: &mut [i32],
+    first: &mut Store<'_>,
+    second: &mut Store<'_>,
 ) -> Report
-    requires passed { Passed u.now v.now schedule.now width
-        (columns level.old low.old high.old a.old b.old c.old d.old)
-        (columns other_level.old other_low.old other_high.old other_a.old other_b.old other_c.old other_d.old) n offsets }
-    requires at_most { AtMost 4096 (columns level.old low.old high.old a.old b.old c.old d.old) }
-    ensures { leaving result
-        (columns level.new low.new high.new a.new b.new c.new d.new)
-        (columns other_level.new other_low.new other_high.new
-        other_a.new other_b.new other_c.new other_d.new)
-        ≡ answer u.now v.now schedule.now width
-        (columns level.old low.old high.old a.old b.old c.old d.old)
-        (columns other_level.old other_low.old other_high.old
-        other_a.old other_b.old other_c.old other_d.old) }
+    requires passed { Passed course.now.u.now course.now.v.now course.now.schedule.now width
+        (columns_of first.old) (columns_of second.old) course.now.n course.now.offsets }
+    requires roomy { Roomy STORE INDEX TABLE }
+    requires at_most { AtMost STORE (columns_of first.old) }
+    ensures answer { leaving result (columns_of first.new) (columns_of second.new)
+        ≡ answer course.now.u.now course.now.v.now course.now.schedule.now width (columns_of first.old) (columns_of second.old) }
+    ensures same_first { SameColumns first.old first.new }
+    ensures same_second { SameColumns second.old second.new }
 {
-    let mut terminals = [0; 16384];
-    let mut node_index = [0; 12288];
-    let mut value_index = [0; 12288];
-    let mut memo = [0; 155648];
+    let mut terminals = [ZERO; STORE];
+    let mut node_index = [0; INDEX];
+    let mut value_index = [0; INDEX];
+    let mut memo = [0; TABLE];
     let sizes = Sizes {
         width,
-        heads: 8192,
-        slots: 32768,
+        heads: (INDEX - STORE) as u32,
+        slots: ((TABLE - 6 * STORE) / 4) as u32,
     };
-    let room = 4 * a.len();
-    judge_in(
-        u,
-        v,
-        schedule,
-        n,
-        offsets,
-        sizes,
-        level,
-        low,
-        high,
-        a,
-        b,
-        c,
-        d,
-        other_level,
-        other_low,
-        other_high,
-        other_a,
-        other_b,
-        other_c,
-        other_d,
-        &mut terminals[..room],
-        &mut node_index,
-        &mut value_index,
-        &mut memo,
-    )
+    let values = first.a.len();
+    let mut scratch = Scratch {
+        terminals: &mut terminals[..values],
+        node_index: &mut node_index,
+        value_index: &mut value_index,
+        memo: &mut memo,
+    };
+    judge_in(course, sizes, first, second, &mut scratch)
 }
 
-// Stores of any lengths that the rules allow: scratch of 4,718,592 bytes, in a frame of its own.
-#[inline(never)]
-fn judge_large(
-    u: &[u8],
-    v: &[u8],
-    schedule: &[u8],
-    n: u32,
-    offsets: Offsets,
-    width: u32,
-    level: &mut [u32],
-    low: &mut [u32],
-    high: &mut [u32],
-    a: &mut [i32],
-    b: &mut [i32],
-    c: &mut [i32],
-    d: &mut [i32],
-    other_level: &mut [u32],
-    other_low: &mut [u32],
-    other_high: &mut [u32],
-    other_a: &mut [i32],
-    other_b: &mut [i32],
-    other_c: &mut [i32],
-    other_d: &mut [i32],
-) -> Report
-    requires passed { Passed u.now v.now schedule.now width
-        (columns level.old low.old high.old a.old b.old c.old d.old)
-        (columns other_level.old other_low.old other_high.old other_a.old other_b.old other_c.old other_d.old) n offsets }
-    requires at_most { AtMost 65536 (columns level.old low.old high.old a.old b.old c.old d.old) }
-    ensures { leaving result
-        (columns level.new low.new high.new a.new b.new c.new d.new)
-        (columns other_level.new other_low.new other_high.new
-        other_a.new other_b.new other_c.new other_d.new)
-        ≡ answer u.now v.now schedule.now width
-        (columns level.old low.old high.old a.old b.old c.old d.old)
-        (columns other_level.old other_low.old other_high.old
-        other_a.old other_b.old other_c.old other_d.old) }
-{
-    let mut terminals = [0; 262144];
-    let mut node_index = [0; 131072];
-    let mut value_index = [0; 131072];
-    let mut memo = [0; 655360];
-    let sizes = Sizes {
-        width,
-        heads: 65536,
-        slots: 65536,
-    };
-    let room = 4 * a.len();
-    judge_in(
-        u,
-        v,
-        schedule,
-        n,
-        offsets,
-        sizes,
-        level,
-        low,
-        high,
-        a,
-        b,
-        c,
-        d,
-        other_level,
-        other_low,
-        other_high,
-        other_a,
-        other_b,
-        other_c,
-        other_d,
-        &mut terminals[..room],
-        &mut node_index,
-        &mut value_index,
-        &mut memo,
-    )
-}
-
-// The run in scratch of the smallest size that has room, tried from `size` on. Each size keeps a frame of its own, and the call itself
-// needs neither.
+// The run in scratch of the smaller size that has room. Each size keeps a frame of its own, and the call itself needs neither.
 fn judge_sized(
-    size: u32,
-    u: &[u8],
-    v: &[u8],
-    schedule: &[u8],
-    n: u32,
-    offsets: Offsets,
+    course: &Course<'_>,
     width: u32,
-    level: &mut [u32],
-    low: &mut [u32],
-    high: &mut [u32],
-    a: &mut [i32],
-    b: &mut [i32],
-    c: &mut [i32],
-    d: &mut [i32],
-    other_level: &mut [u32],
-    other_low: &mut [u32],
-    other_high: &mut [u32],
-    other_a: &mut [i32],
-    other_b: &mut [i32],
-    other_c: &mut [i32],
-    other_d: &mut [i32],
+    first: &mut Store<'_>,
+    second: &mut Store<'_>,
 ) -> Report
-    requires { Passed u.now v.now schedule.now width
-        (columns level.old low.old high.old a.old b.old c.old d.old)
-        (columns other_level.old other_low.old other_high.old other_a.old other_b.old other_c.old other_d.old) n offsets }
-    ensures { leaving result
-        (columns level.new low.new high.new a.new b.new c.new d.new)
-        (columns other_level.new other_low.new other_high.new
-        other_a.new other_b.new other_c.new other_d.new)
-        ≡ answer u.now v.now schedule.now width
-        (columns level.old low.old high.old a.old b.old c.old d.old)
-        (columns other_level.old other_low.old other_high.old
-        other_a.old other_b.old other_c.old other_d.old) }
+    requires { Passed course.now.u.now course.now.v.now course.now.schedule.now width
+        (columns_of first.old) (columns_of second.old) course.now.n course.now.offsets }
+    ensures answer { leaving result (columns_of first.new) (columns_of second.new)
+        ≡ answer course.now.u.now course.now.v.now course.now.schedule.now width (columns_of first.old) (columns_of second.old) }
+    ensures same_first { SameColumns first.old first.new }
+    ensures same_second { SameColumns second.old second.new }
 {
-    if size == SMALL {
-        if level.len() <= SMALL_STORE {
-            if a.len() <= SMALL_STORE {
-                return judge_small(
-                    u,
-                    v,
-                    schedule,
-                    n,
-                    offsets,
-                    width,
-                    level,
-                    low,
-                    high,
-                    a,
-                    b,
-                    c,
-                    d,
-                    other_level,
-                    other_low,
-                    other_high,
-                    other_a,
-                    other_b,
-                    other_c,
-                    other_d,
-                );
-            }
-        }
-        return judge_sized(
-            LARGE,
-            u,
-            v,
-            schedule,
-            n,
-            offsets,
-            width,
-            level,
-            low,
-            high,
-            a,
-            b,
-            c,
-            d,
-            other_level,
-            other_low,
-            other_high,
-            other_a,
-            other_b,
-            other_c,
-            other_d,
-        );
+    if first.level.len() <= SMALL_STORE && first.a.len() <= SMALL_STORE {
+        judge_within::<SMALL_STORE, SMALL_INDEX, SMALL_TABLE>(course, width, first, second)
+    } else {
+        judge_within::<LARGE_STORE, LARGE_INDEX, LARGE_TABLE>(course, width, first, second)
     }
-    judge_large(
-        u,
-        v,
-        schedule,
-        n,
-        offsets,
-        width,
-        level,
-        low,
-        high,
-        a,
-        b,
-        c,
-        d,
-        other_level,
-        other_low,
-        other_high,
-        other_a,
-        other_b,
-        other_c,
-        other_d,
-    )
 }
 
 // The verdict on list u against list v along a schedule, in numbers of the width w, in two lent stores.
-pub fn judge(
-    u: &[u8],
-    v: &[u8],
-    schedule: &[u8],
+pub fn judge<'a>(
+    u: &'a [u8],
+    v: &'a [u8],
+    schedule: &'a [u8],
     w: u32,
-    level: &mut [u32],
-    low: &mut [u32],
-    high: &mut [u32],
-    a: &mut [i32],
-    b: &mut [i32],
-    c: &mut [i32],
-    d: &mut [i32],
-    other_level: &mut [u32],
-    other_low: &mut [u32],
-    other_high: &mut [u32],
-    other_a: &mut [i32],
-    other_b: &mut [i32],
-    other_c: &mut [i32],
-    other_d: &mut [i32],
+    first: &mut Store<'_>,
+    second: &mut Store<'_>,
 ) -> Report
-    ensures { leaving result
-        (columns level.new low.new high.new a.new b.new c.new d.new)
-        (columns other_level.new other_low.new other_high.new
-        other_a.new other_b.new other_c.new other_d.new)
-        ≡ answer u.now v.now schedule.now w
-        (columns level.old low.old high.old a.old b.old c.old d.old)
-        (columns other_level.old other_low.old other_high.old
-        other_a.old other_b.old other_c.old other_d.old) }
+    ensures answer { leaving result (columns_of first.new) (columns_of second.new)
+        ≡ answer u.now v.now schedule.now w (columns_of first.old) (columns_of second.old) }
+    ensures same_first { SameColumns first.old first.new }
+    ensures same_second { SameColumns second.old second.new }
 {
-    let first = Lengths {
-        level: level.len(),
-        low: low.len(),
-        high: high.len(),
-        a: a.len(),
-        b: b.len(),
-        c: c.len(),
-        d: d.len(),
-    };
-    let second = Lengths {
-        level: other_level.len(),
-        low: other_low.len(),
-        high: other_high.len(),
-        a: other_a.len(),
-        b: other_b.len(),
-        c: other_c.len(),
-        d: other_d.len(),
-    };
-    match checks::check(u, v, schedule, w, first, second) {
-        Checked::Refused(why) => miters::refused(why),
-        Checked::Pair { n, offsets } => {
-            judge_sized(
-                SMALL,
+    match checks::check(
+        u,
+        v,
+        schedule,
+        w,
+        checks::lengths_of(first),
+        checks::lengths_of(second),
+    ) {
+        Ok(Pair { n, offsets }) => {
+            let course = Course {
                 u,
                 v,
                 schedule,
                 n,
                 offsets,
-                w,
-                level,
-                low,
-                high,
-                a,
-                b,
-                c,
-                d,
-                other_level,
-                other_low,
-                other_high,
-                other_a,
-                other_b,
-                other_c,
-                other_d,
-            )
+            };
+            judge_sized(&course, w, first, second)
         }
+        Err(why) => miters::refused(why),
     }
 }

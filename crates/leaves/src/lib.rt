@@ -1,59 +1,40 @@
 // States of a step's walk with no question left: which they are, and their entries.
 #![tactic(auto)]
 
-ghost use Rattle.std.specs.Prelude.{◌≡◌, [], map, ◌/◌, ◌<◌, pos, get_or};
+ghost use Rattle.std.specs.Prelude.{◌≡◌, ◌/◌};
 ghost use Rattle.algebra.specs.Width.{bounded};
-ghost use Rattle.transitions.specs.Source.{source_entry, HoldsSlot, ReadingLeaf};
-ghost use Rattle.transitions.specs.Next.{numbered, is_leaf, leaf_entry};
+ghost use Rattle.transitions.specs.Source.{vals_of, HoldsSlot, ReadingLeaf};
+ghost use Rattle.transitions.specs.Next.{is_leaf, leaf_entry};
 
-use algebra::{Bounded, Entry};
+use algebra::Entry;
+use stores::View;
+use transitions::{Mode, State};
 
-pub fn is_leaf(x: u32, y: u32, mode: u32) -> bool
-    ensures { result ≡ is_leaf (numbered x y mode) }
+#[inline]
+#[tactic(auto, unfolding(transitions::specs::Next::is_leaf))]
+pub fn is_leaf(state: State) -> bool
+    ensures { result ≡ is_leaf state }
 {
-    if mode < 8 {
-        return x % 2 == 0;
-    }
-    if mode < 16 {
-        if x % 2 == 0 {
-            return y % 2 == 0;
-        }
-    }
-    false
-}
-
-fn number_at(values: &[&[i32]; 4], part: usize, j: u32) -> i32
-    requires { (part < 4) × HoldsSlot (map (λ x. x.now) values.now) j }
-    ensures { result ≡ get_or (get_or (map (λ x. x.now) values.now) part []) j (pos 0) }
-{
-    values[part][j as usize]
-}
-
-fn entry_at(values: &[&[i32]; 4], j: u32) -> Entry
-    requires { HoldsSlot (map (λ x. x.now) values.now) j }
-    ensures { result ≡ source_entry (map (λ x. x.now) values.now) j }
-{
-    Entry {
-        a: number_at(values, 0, j),
-        b: number_at(values, 1, j),
-        c: number_at(values, 2, j),
-        d: number_at(values, 3, j),
+    match state.mode {
+        Mode::Turning(_) => state.x % 2 == 0,
+        Mode::Adding | Mode::Subtracting => state.x % 2 == 0 && state.y % 2 == 0,
+        Mode::Waiting(_) | Mode::Swapping { .. } | Mode::Choosing { .. } => false,
     }
 }
 
 // The entry of a state with no question left, if it lies within the width.
-pub fn leaf(values: &[&[i32]; 4], x: u32, y: u32, mode: u32, width: u32) -> Bounded
-    requires { HoldsSlot (map (λ x. x.now) values.now) (x / 2) × HoldsSlot (map (λ x. x.now) values.now) (y / 2) }
-    ensures { ReadingLeaf (map (λ x. x.now) values.now) (numbered x y mode)
-        (λ s. result ≡ bounded width (leaf_entry s (numbered x y mode))) }
+#[tactic(auto, unfolding(transitions::specs::Next::is_leaf, transitions::specs::Next::leaf_entry))]
+pub fn leaf(source: &View<'_>, state: State, width: u32) -> Option<Entry>
+    requires { HoldsSlot (vals_of source.now) (state.x / 2) × HoldsSlot (vals_of source.now) (state.y / 2) }
+    ensures { ReadingLeaf (vals_of source.now) state
+        (λ s. result ≡ bounded width (leaf_entry s state)) }
 {
-    let e = entry_at(values, x / 2);
-    if mode < 8 {
-        return algebra::turned(e, mode, width);
+    let e = source.value_at((state.x / 2) as usize);
+    match state.mode {
+        Mode::Turning(power) => algebra::turned(e, power, width),
+        Mode::Adding => algebra::sum(e, source.value_at((state.y / 2) as usize), width),
+        Mode::Subtracting => algebra::difference(e, source.value_at((state.y / 2) as usize), width),
+        // these have a question left
+        Mode::Waiting(_) | Mode::Swapping { .. } | Mode::Choosing { .. } => None,
     }
-    let f = entry_at(values, y / 2);
-    if mode == 8 {
-        return algebra::sum(e, f, width);
-    }
-    algebra::difference(e, f, width)
 }

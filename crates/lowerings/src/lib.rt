@@ -1,81 +1,67 @@
 // A product's terminals over its exponent, divided by √2 while it goes.
 #![tactic(auto)]
 
-ghost use Rattle.std.specs.Prelude.{◌≡◌, ◌*◌, ◌≤◌, length};
+ghost use Rattle.std.specs.Prelude.{◌≡◌, ◌≤◌, true, length};
 ghost use Rattle.algebra.specs.Division.{divisible};
 ghost use Rattle.algebra.specs.Lowering.{every};
 ghost use Rattle.uniques.specs.UniqueTable.{values_in};
-ghost use Rattle.stores.specs.Columns.{ValueColumns};
+ghost use Rattle.stores.specs.Columns.{columns_of, SameColumns, ValueColumns};
 ghost use Rattle.lowerings.specs.Lowered.{Divided, Lowers, PublishedLowered};
 
+use algebra::Entry;
+use stores::Store;
+
 // Whether each of the first `used` terminals is a multiple of √2.
-fn all_divisible(terminals: &[i32], used: usize) -> bool
-    requires { 4 * used ≤ length terminals.now }
+fn all_divisible(terminals: &[Entry], used: usize) -> bool
+    requires { used ≤ length terminals.now }
     ensures { result ≡ every divisible (values_in used terminals.now) }
 {
-    let mut j = 0;
-    while j < used {
-        if !algebra::divisible(uniques::read_value(terminals, j)) {
-            return false;
-        }
-        j += 1;
-    }
-    true
+    terminals[..used].iter().all(|x| algebra::divisible(*x))
 }
 
 // Each of the first `used` terminals is divided by √2. The slots past them are left open.
-fn divide_all(terminals: &mut [i32], used: usize)
-    requires { 4 * used ≤ length terminals.old }
+fn divide_all(terminals: &mut [Entry], used: usize)
+    requires { used ≤ length terminals.old }
     ensures { Divided used terminals.old terminals.new }
 {
-    let mut j = 0;
-    while j < used {
-        let e = algebra::over_root(uniques::read_value(terminals, j));
-        uniques::write_value(terminals, j, e);
-        j += 1;
+    for x in terminals[..used].iter_mut() {
+        *x = algebra::over_root(*x);
     }
 }
 
 // The first `used` terminals are divided while the exponent is above 0 and each of them is a multiple of √2; the exponent then.
 // The slots past them are left open.
-fn lower(terminals: &mut [i32], used: u32, power: u32) -> u32
-    requires { 4 * used ≤ length terminals.old }
+fn lower(terminals: &mut [Entry], used: u32, power: u32) -> u32
+    requires { used ≤ length terminals.old }
     ensures { Lowers used power terminals.old terminals.new result }
 {
     let n = used as usize;
-    let mut k = power;
-    while 0 < k {
+    for k in (0..power).rev() {
         if !all_divisible(terminals, n) {
-            return k;
+            return k + 1;
         }
         divide_all(terminals, n);
-        k -= 1;
     }
-    k
+    0
 }
 
-// In phase 0 the first `used` terminals, lowered, go into four columns, whose slots past them stay; the exponent then. In any
-// other phase the columns stay, and it is 0. What the terminals are then is left open.
-#[tactic(auto, using(crate::proofs::Lowerings::published_lowered, crate::proofs::Lowerings::nothing_published))]
+// Of a product that was built the first `used` terminals, lowered, go into the value columns, whose slots past them stay; the
+// exponent then. Of any other the columns stay, and it is 0. What the terminals are then is left open.
 pub fn publish_lowered(
-    terminals: &mut [i32],
-    phase: u32,
+    terminals: &mut [Entry],
+    built: bool,
     used: u32,
     power: u32,
-    a: &mut [i32],
-    b: &mut [i32],
-    c: &mut [i32],
-    d: &mut [i32],
+    store: &mut Store<'_>,
 ) -> u32
-    requires { phase ≡ 0 → (4 * used ≤ length terminals.old) × ValueColumns a.old b.old c.old d.old used }
-    ensures { PublishedLowered phase used power terminals.old
-        a.old b.old c.old d.old
-        a.new b.new c.new d.new result }
+    requires { built ≡ true → (used ≤ length terminals.old) × ValueColumns (columns_of store.old) used }
+    ensures lowered { PublishedLowered built used power terminals.old (columns_of store.old) (columns_of store.new) result }
+    ensures same_columns { SameColumns store.old store.new }
 {
-    if phase != 0 {
+    if !built {
         return 0;
     }
     let k = lower(terminals, used, power);
-    stores::publish(terminals, used, a, b, c, d);
+    store.publish(terminals, used);
     k
 }

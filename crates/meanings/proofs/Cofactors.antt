@@ -1,19 +1,20 @@
 -- Cofactors: what a reference reaches after a bit, and where it asks next.
 -- Assumes nothing.
 use mathlib.Core.Path.{◌≡◌, refl, sym, ◌∙◌, ap, subst}
-use mathlib.Core.Bool.{Bool, true, false, cond}
+use mathlib.Core.Bool.{Bool, true, false, cond, true≢false}
 use mathlib.Core.List.{[], ◌∷◌}
 use Prim.Native.Nat.{ℕ, suc, ◌<◌, ◌≤◌}
 use native.Mathlib.Omega.{arith}
 use lib.Dec.{eqb}
 use lib.ListN.{get_or}
 use borrow.Author.Tests.{ne_eqb, eqb-true, eqb-false}
+use Rattle.std.specs.Prelude.{Option, Some, None}
 use Rattle.algebra.specs.declared.Entry.{Entry}
 use Rattle.algebra.specs.Entry.{𝟘}
 use Rattle.algebra.specs.Matrix.{Bits}
 use Rattle.diagrams.specs.Diagram.{Ref, value, node, code, Store, node_at, reached, From, ref_of}
 use Rattle.diagrams.proofs.References.{ref_of_code, code_ref_of}
-use Rattle.transitions.specs.Plan.{Plan}
+use Rattle.transitions.specs.Plan.{Plan, is_zero}
 use Rattle.transitions.specs.State.{level_of}
 use Rattle.transitions.specs.Source.{Refers}
 use Rattle.transitions.specs.Next.{cofactor_by, cofactor}
@@ -122,9 +123,13 @@ module _ (plan : Plan) (s : Store Entry) (valid : ValidPlan plan s) where
       record { refers = rw (cofactor_ref s level b x) after.0; from = rw (cofactor_ref s level b x) after.1 }
 
   -- what has the zero's number reaches 0
-  pub zero_reached : (x level : ℕ) (l : Bits) → Refers s (ref_of x) → x ≡ plan.zero → reached 𝟘 s level (ref_of x) l ≡ 𝟘
-  zero_reached x level l refers e = by_ref (ref_of x) refers (code_ref_of x ∙ e)
+  pub zero_reached : (x level : ℕ) (l : Bits) → Refers s (ref_of x) → is_zero plan.zero x ≡ true → reached 𝟘 s level (ref_of x) l ≡ 𝟘
+  zero_reached x level l refers e = by_ref (ref_of x) refers (the_zero plan.zero x e ∙ ap Some (sym (code_ref_of x)))
     where
-      by_ref : (r : Ref) → Refers s r → code r ≡ plan.zero → reached 𝟘 s level r l ≡ 𝟘
+      the_zero : (zero : Option ℕ) (x : ℕ) → is_zero zero x ≡ true → zero ≡ Some x
+      the_zero None x e = absurd (true≢false (sym e))
+      the_zero (Some z) x e = ap Some (sym (eqb-true x z e))
+
+      by_ref : (r : Ref) → Refers s r → plan.zero ≡ Some (code r) → reached 𝟘 s level r l ≡ 𝟘
       by_ref (value j) h is_zero = reached_value s level j l ∙ valid.zero_value j h is_zero
       by_ref (node i) h is_zero = absurd (valid.zero_no_node i h is_zero)

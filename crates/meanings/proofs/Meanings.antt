@@ -17,16 +17,17 @@ use Rattle.gates.specs.Gate.{bit, all_set, exchanged}
 use Rattle.gates.specs.Rule.{phase, flipped, acted}
 use Rattle.diagrams.specs.Diagram.{Store, reached, ref_of}
 use Rattle.diagrams.proofs.Tests.{both_true}
+use Rattle.transitions.specs.declared.Mode.{Mode}
+use Rattle.transitions.specs.declared.Mode.TheVariants.{Turning, Adding, Subtracting, Waiting, Swapping, Choosing}
 use Rattle.transitions.specs.declared.State.{State}
-use Rattle.transitions.specs.Plan.{Plan, plan_rule, control}
-use Rattle.transitions.specs.State.{Mode, turning, adding, subtracting, waiting, swapping, choosing, mode_of, meant_by, meaning, top}
+use Rattle.transitions.specs.Plan.{Plan, plan_rule, control, is_zero}
+use Rattle.transitions.specs.State.{meant_by, meaning, top}
 use Rattle.transitions.specs.Source.{Refers}
-use Rattle.transitions.specs.Next.{mode_code, on_both, on_one, cofactor, paired, chosen, at_target, next_by, next_state}
+use Rattle.transitions.specs.Next.{on_both, on_one, cofactor, paired, chosen, at_target, next_by, next_state}
 use Rattle.transitions.specs.Valid.{ValidPlan, Passed}
-use Rattle.transitions.proofs.Codes.{Codes, mode_of_code}
 use Rattle.meanings.proofs.Actions.{acted_later, made_at_target, acted_here, exchanged_here}
 use Rattle.meanings.proofs.Stages.{controls_from, controls_first, controls_later, all_set_from}
-use Rattle.meanings.proofs.Stages.{strictly, passed_stage, target_ahead, target_up_to, second_ahead, phase_small}
+use Rattle.meanings.proofs.Stages.{strictly, passed_stage, target_ahead, target_up_to, second_ahead}
 use Rattle.meanings.proofs.Stages.{control_target, control_second, control_stage, control_between, all_passed}
 use Rattle.meanings.proofs.Cofactors.{Asks, reached_cofactor, reached_passed, cofactor_asks, zero_reached}
 use Rattle.meanings.proofs.Sound.{Sound, SoundAt, sound_later}
@@ -57,49 +58,44 @@ module _ (plan : Plan) (s : Store Entry) (valid : ValidPlan plan s) (level : ℕ
   abbrev at : ℕ → Entry
   at x = gives s level x l
 
-  pub meaning_on : (m : Mode) (x y : ℕ) → Codes m → meaning plan s level (on_both m x y) l ≡ meant_by plan s level m (ref_of x) (ref_of y) l
+  meaning_on : (m : Mode) (x y : ℕ) → meaning plan s level (on_both m x y) l ≡ meant_by plan s level m (ref_of x) (ref_of y) l
   unfolding meaning
-  meaning_on m x y codes = ap (λ (mode : Mode). meant_by plan s level mode (ref_of x) (ref_of y) l) (mode_of_code m codes)
+  meaning_on m x y = refl
 
-  alone_means : (e x : ℕ) → e < 8 → meaning plan s level (on_one (turning e) x) l ≡ turned e (at x)
-  alone_means e x small = meaning_on (turning e) x x small
+  alone_means : (e x : ℕ) → meaning plan s level (on_one (Turning e) x) l ≡ turned e (at x)
+  alone_means e x = meaning_on (Turning e) x x
 
-  plain_means : (x : ℕ) → meaning plan s level (on_one (turning 0) x) l ≡ at x
-  plain_means x = alone_means 0 x (omega arith) ∙ turned_zero (at x)
+  plain_means : (x : ℕ) → meaning plan s level (on_one (Turning 0) x) l ≡ at x
+  plain_means x = alone_means 0 x ∙ turned_zero (at x)
 
   module _ (x y : ℕ) where
-    paired_by : (m : Mode) (op : Entry → Entry → Entry) → Codes m → Refers s (ref_of x) → Refers s (ref_of y)
-        → meant_by plan s level m (ref_of x) (ref_of y) l ≡ op (at x) (at y) → ((z : Entry) → op z 𝟘 ≡ z)
-        → ((z : Entry) → op 𝟘 z ≡ turned (cond (eqb (mode_code m) 8) 0 4) z)
-        → meaning plan s level (paired plan (mode_code m) x y) l ≡ op (at x) (at y)
+    paired_by : (minus : Bool) (op : Entry → Entry → Entry) → Refers s (ref_of x) → Refers s (ref_of y)
+        → meant_by plan s level (cond minus Subtracting Adding) (ref_of x) (ref_of y) l ≡ op (at x) (at y) → ((z : Entry) → op z 𝟘 ≡ z)
+        → ((z : Entry) → op 𝟘 z ≡ turned (cond minus 4 0) z) → meaning plan s level (paired plan minus x y) l ≡ op (at x) (at y)
     unfolding paired
-    paired_by m op codes x_refers y_refers means op_zero zero_op = by_tests (eqb y plan.zero) refl (eqb x plan.zero) refl
+    paired_by minus op x_refers y_refers means op_zero zero_op = by_tests (is_zero plan.zero y) refl (is_zero plan.zero x) refl
       where
-        small : (eight : Bool) → cond eight 0 4 < 8
-        small true = omega arith
-        small false = omega arith
-
-        by_tests : (y_zero : Bool) → eqb y plan.zero ≡ y_zero → (x_zero : Bool) → eqb x plan.zero ≡ x_zero
-            → meaning plan s level
-            (cond y_zero (on_one (turning 0) x) (cond x_zero (on_one (turning (cond (eqb (mode_code m) 8) 0 4)) y) (on_both m x y))) l
+        by_tests : (y_zero : Bool) → is_zero plan.zero y ≡ y_zero → (x_zero : Bool) → is_zero plan.zero x ≡ x_zero
+            → meaning plan s level (cond y_zero (on_one (Turning 0) x)
+            (cond x_zero (on_one (Turning (cond minus 4 0)) y) (on_both (cond minus Subtracting Adding) x y))) l
             ≡ op (at x) (at y)
         by_tests true e x_zero f =
-            plain_means x ∙ sym (op_zero (at x)) ∙ ap (op (at x)) (sym (zero_reached plan s valid y level l y_refers (eqb-true _ _ e)))
+            plain_means x ∙ sym (op_zero (at x)) ∙ ap (op (at x)) (sym (zero_reached plan s valid y level l y_refers e))
         by_tests false e true f =
-            alone_means (cond (eqb (mode_code m) 8) 0 4) y (small (eqb (mode_code m) 8))
-            ∙ sym (zero_op (at y)) ∙ ap (λ (z : Entry). op z (at y)) (sym (zero_reached plan s valid x level l x_refers (eqb-true _ _ f)))
-        by_tests false e false f = meaning_on m x y codes ∙ means
+            alone_means (cond minus 4 0) y ∙ sym (zero_op (at y))
+            ∙ ap (λ (z : Entry). op z (at y)) (sym (zero_reached plan s valid x level l x_refers f))
+        by_tests false e false f = meaning_on (cond minus Subtracting Adding) x y ∙ means
 
-    pub paired_means : (b : Bool) → Refers s (ref_of x) → Refers s (ref_of y)
-        → meaning plan s level (paired plan (cond b 9 8) x y) l ≡ cond b (at x ⊖ at y) (at x ⊕ at y)
-    paired_means true x_refers y_refers = paired_by subtracting ◌⊖◌ tt x_refers y_refers refl ⊖-zero zero-⊖
+    pub paired_means : (minus : Bool) → Refers s (ref_of x) → Refers s (ref_of y)
+        → meaning plan s level (paired plan minus x y) l ≡ cond minus (at x ⊖ at y) (at x ⊕ at y)
+    paired_means true x_refers y_refers = paired_by true ◌⊖◌ x_refers y_refers refl ⊖-zero zero-⊖
     paired_means false x_refers y_refers =
-        paired_by adding ◌⊕◌ tt x_refers y_refers refl ⊕-zero (λ z. zero_add entries z ∙ sym (turned_zero z))
+        paired_by false ◌⊕◌ x_refers y_refers refl ⊕-zero (λ z. zero_add entries z ∙ sym (turned_zero z))
 
-    pub chosen_means : (k e : ℕ) → e < 8 → (k ≡ plan.stages → Passed plan k level)
+    pub chosen_means : (k e : ℕ) → (k ≡ plan.stages → Passed plan k level)
         → meaning plan s level (chosen plan k e x y) l ≡ choice (all_set (controls_from plan level) l) e (at y) (at x)
     unfolding chosen
-    chosen_means k e small passed = by_tests (eqb k plan.stages) refl (eqb e 0 && eqb x y) refl
+    chosen_means k e passed = by_tests (eqb k plan.stages) refl (eqb e 0 && eqb x y) refl
       where
         active : Bool
         active = all_set (controls_from plan level) l
@@ -109,17 +105,17 @@ module _ (plan : Plan) (s : Store Entry) (valid : ValidPlan plan s) (level : ℕ
         one false none same = refl
 
         by_tests : (last : Bool) → eqb k plan.stages ≡ last → (alike : Bool) → (eqb e 0 && eqb x y) ≡ alike
-            → meaning plan s level (cond last (on_one (turning e) y) (cond alike (on_one (turning 0) x) (on_both (choosing k e) x y))) l
+            → meaning plan s level (cond last (on_one (Turning e) y) (cond alike (on_one (Turning 0) x) (on_both (Choosing k e) x y))) l
             ≡ choice active e (at y) (at x)
         by_tests true is_last alike f =
             let k_last : k ≡ plan.stages = eqb-true _ _ is_last in
-            alone_means e y small
+            alone_means e y
             ∙ ap (λ (t : Bool). choice t e (at y) (at x))
             (sym (all_passed plan s valid level l (subst (λ (j : ℕ). Passed plan j level) k_last (passed k_last))))
         by_tests false more true f =
             let tests = both_true (eqb e 0) (eqb x y) f in
             plain_means x ∙ one active (eqb-true _ _ tests.0) (eqb-true _ _ tests.1)
-        by_tests false more false f = meaning_on (choosing k e) x y small
+        by_tests false more false f = meaning_on (Choosing k e) x y
 
 -- ---- the gate still to act
 
@@ -200,7 +196,7 @@ module _ (plan : Plan) (s : Store Entry) (valid : ValidPlan plan s) (level : ℕ
         acting_later x y before goes ∙ ap (λ (t : Bool). cond (not t || b) (acting_on (suc level) y l) (gives s (suc level) y l)) free
 
     -- the choice between two references, by the first bit
-    choosing_first : (k e x y : ℕ) → meant_by plan s level (choosing k e) (ref_of x) (ref_of y) (b ∷ l)
+    choosing_first : (k e x y : ℕ) → meant_by plan s level (Choosing k e) (ref_of x) (ref_of y) (b ∷ l)
         ≡ choice ((not (control plan level) || b) && all_set (controls_from plan (suc level)) l) e (gives s level y (b ∷ l)) (gives s level x (b ∷ l))
     choosing_first k e x y = ap (λ (t : Bool). choice t e (gives s level y (b ∷ l)) (gives s level x (b ∷ l))) (all_set_from plan level b l)
 
@@ -209,24 +205,24 @@ module _ (plan : Plan) (s : Store Entry) (valid : ValidPlan plan s) (level : ℕ
   module _ (b : Bool) (l : Bits) where
     passed_by : (m : Mode) (x y : ℕ) → Sound plan s level m x y → Sound plan s (suc level) m x y
         → meant_by plan s level m (ref_of x) (ref_of y) (b ∷ l) ≡ meant_by plan s (suc level) m (ref_of x) (ref_of y) l
-    passed_by (turning e) x y now later = ap (turned e) (reached_passed plan s level b (ref_of x) l later.x_asks.from)
-    passed_by adding x y now later =
+    passed_by (Turning e) x y now later = ap (turned e) (reached_passed plan s level b (ref_of x) l later.x_asks.from)
+    passed_by Adding x y now later =
         ap₂ ◌⊕◌ (reached_passed plan s level b (ref_of x) l later.x_asks.from) (reached_passed plan s level b (ref_of y) l later.y_asks.from)
-    passed_by subtracting x y now later =
+    passed_by Subtracting x y now later =
         ap₂ ◌⊖◌ (reached_passed plan s level b (ref_of x) l later.x_asks.from) (reached_passed plan s level b (ref_of y) l later.y_asks.from)
-    passed_by (waiting k) x y now later =
+    passed_by (Waiting k) x y now later =
         let up_to_lem = now.suits.0 in
         let target_below = valid.has_target in
         acting_free b l x x (target_ahead plan s valid k level up_to_lem later.ahead) (λ m. reached_passed plan s level b (ref_of x) m later.x_asks.from)
         (control_between plan s valid k level (omega arith) now.suits.2 later.ahead)
-    passed_by (swapping k seen) x y now later =
+    passed_by (Swapping k seen) x y now later =
         let last = valid.has_second in
         let up_to_lem = now.suits.1 in
         swapping_later b l seen x y x y (second_ahead plan s valid k level now.suits.1 later.ahead)
         (λ m. reached_passed plan s level b (ref_of x) m later.x_asks.from) (λ m. reached_passed plan s level b (ref_of y) m later.y_asks.from)
         ∙ ap (λ (t : Bool). cond (not t || b) (swapping_on (suc level) seen x y l) (gives s (suc level) x l))
         (control_between plan s valid k level (omega arith) now.suits.2 later.ahead)
-    passed_by (choosing k e) x y now later =
+    passed_by (Choosing k e) x y now later =
         let active = all_set (controls_from plan (suc level)) l in
         choosing_first b l k e x y
         ∙ ap (λ (t : Bool). choice ((not t || b) && active) e (gives s level y (b ∷ l)) (gives s level x (b ∷ l)))
@@ -237,7 +233,7 @@ module _ (plan : Plan) (s : Store Entry) (valid : ValidPlan plan s) (level : ℕ
     pub meaning_passed : (σ : State) → SoundAt plan s level σ → level < top plan s σ → meaning plan s level σ (b ∷ l) ≡ meaning plan s (suc level) σ l
     unfolding meaning
     meaning_passed σ sound before =
-        passed_by (mode_of σ.mode) σ.x σ.y sound.1 (sound_later plan s level (suc level) σ sound (omega arith) before).1
+        passed_by σ.mode σ.x σ.y sound (sound_later plan s level (suc level) σ sound (omega arith) before)
 
   -- ---- a bit that is asked for
 
@@ -285,9 +281,9 @@ module _ (plan : Plan) (s : Store Entry) (valid : ValidPlan plan s) (level : ℕ
 
         by_action : (mixes swaps : Bool) → plan.mixes ≡ mixes → plan.swaps ≡ swaps → made_by mixes swaps
             ≡ meaning plan s (suc level) (cond mixes
-            (paired plan (cond b 9 8) (cofactor s level false x) (cofactor s level true x))
+            (paired plan b (cofactor s level false x) (cofactor s level true x))
             (cond swaps
-            (on_both (swapping (suc plan.target) b) (cofactor s level b x) (cofactor s level (not b) x))
+            (on_both (Swapping (suc plan.target) b) (cofactor s level b x) (cofactor s level (not b) x))
             (chosen plan (suc plan.target) (phase plan.phases b) (cofactor s level b x) (cofactor s level taken x)))) l
         by_action true swaps mixes e =
             ap (λ (t : Bool). cond t (mix (gives s level x (false ∷ l)) (gives s level x (true ∷ l))) (gives s level x (b ∷ l))) (alone mixes)
@@ -297,53 +293,48 @@ module _ (plan : Plan) (s : Store Entry) (valid : ValidPlan plan s) (level : ℕ
         by_action false true moves e =
             let first = valid.target_first e in
             let rises = valid.stages_ascend plan.target plan.second first valid.has_second in
-            let most = valid.few_stages in
-            let last = valid.has_second in
             let j = plan.stage plan.second - suc level in
             let one_less : plan.stage plan.second - level ≡ suc j = omega arith in
             ap (λ (q : ℕ). cond active (gives s level x (exchanged 0 q (b ∷ l))) (gives s level x (b ∷ l))) one_less
             ∙ ap (λ (u : Entry). cond active u (gives s level x (b ∷ l))) (exchanged_here (gives s level x) b l j)
             ∙ ap₂ (λ (u w : Entry). cond active (cond (beq (bit l j) b) u w) u) (goes b) (reached_cofactor s level (not b) x (set l j b))
-            ∙ sym (meaning_on plan s valid (suc level) l (swapping (suc plan.target) b) (cofactor s level b x) (cofactor s level (not b) x) (omega arith))
+            ∙ sym (meaning_on plan s valid (suc level) l (Swapping (suc plan.target) b) (cofactor s level b x) (cofactor s level (not b) x))
         by_action false false moves e =
             ap₂ (choice active (phase plan.phases b)) (goes taken) (goes b)
             ∙ sym (chosen_means plan s valid (suc level) l (cofactor s level b x) (cofactor s level taken x)
-            (suc plan.target) (phase plan.phases b) (phase_small plan s valid b) (λ last. passed_target))
+            (suc plan.target) (phase plan.phases b) (λ last. passed_target))
 
-    waiting_means : (k x : ℕ) → k < plan.stages
-        → meaning plan s (suc level) (on_one (waiting k) (cofactor s level b x)) l ≡ acting_on (suc level) (cofactor s level b x) l
-    waiting_means k x below =
-        let most = valid.few_stages in
-        meaning_on plan s valid (suc level) l (waiting k) (cofactor s level b x) (cofactor s level b x) (omega arith)
+    waiting_means : (k x : ℕ)
+        → meaning plan s (suc level) (on_one (Waiting k) (cofactor s level b x)) l ≡ acting_on (suc level) (cofactor s level b x) l
+    waiting_means k x = meaning_on plan s valid (suc level) l (Waiting k) (cofactor s level b x) (cofactor s level b x)
 
     next_means_by : (m : Mode) (x y : ℕ) → Sound plan s level m x y
         → meant_by plan s level m (ref_of x) (ref_of y) (b ∷ l) ≡ meaning plan s (suc level) (next_by plan s level b m x y) l
     unfolding active
-    next_means_by (turning e) x y sound =
-        ap (turned e) (reached_cofactor s level b x l) ∙ sym (alone_means plan s valid (suc level) l e (cofactor s level b x) sound.suits.0)
-    next_means_by adding x y sound =
+    next_means_by (Turning e) x y sound =
+        ap (turned e) (reached_cofactor s level b x l) ∙ sym (alone_means plan s valid (suc level) l e (cofactor s level b x))
+    next_means_by Adding x y sound =
         ap₂ ◌⊕◌ (reached_cofactor s level b x l) (reached_cofactor s level b y l)
         ∙ sym (paired_means plan s valid (suc level) l (cofactor s level b x) (cofactor s level b y) false
         (refers_after b x sound.x_asks) (refers_after b y sound.y_asks))
-    next_means_by subtracting x y sound =
+    next_means_by Subtracting x y sound =
         ap₂ ◌⊖◌ (reached_cofactor s level b x l) (reached_cofactor s level b y l)
         ∙ sym (paired_means plan s valid (suc level) l (cofactor s level b x) (cofactor s level b y) true
         (refers_after b x sound.x_asks) (refers_after b y sound.y_asks))
-    next_means_by (waiting k) x y sound = by_stage (eqb (plan.stage k) level) refl (eqb plan.target k) refl
+    next_means_by (Waiting k) x y sound = by_stage (eqb (plan.stage k) level) refl (eqb plan.target k) refl
       where
         below : k < plan.stages
         below = let up_to_lem = sound.suits.0 in let target_below = valid.has_target in omega arith
 
-        by_bit : (c : Bool) → k < plan.target
-            → cond c (acting_on (suc level) (cofactor s level b x) l) (own b x)
-            ≡ meaning plan s (suc level) (on_one (cond c (waiting (suc k)) (turning 0)) (cofactor s level b x)) l
-        by_bit true before = let target_below = valid.has_target in sym (waiting_means (suc k) x (omega arith))
-        by_bit false before = sym (plain_means plan s valid (suc level) l (cofactor s level b x))
+        by_bit : (c : Bool) → cond c (acting_on (suc level) (cofactor s level b x) l) (own b x)
+            ≡ meaning plan s (suc level) (on_one (cond c (Waiting (suc k)) (Turning 0)) (cofactor s level b x)) l
+        by_bit true = sym (waiting_means (suc k) x)
+        by_bit false = sym (plain_means plan s valid (suc level) l (cofactor s level b x))
 
         by_stage : (here : Bool) → eqb (plan.stage k) level ≡ here → (target : Bool) → eqb plan.target k ≡ target
             → acting_on level x (b ∷ l) ≡ meaning plan s (suc level) (cond here
-            (cond target (at_target plan s level b (suc k) x) (on_one (cond b (waiting (suc k)) (turning 0)) (cofactor s level b x)))
-            (on_one (waiting k) (cofactor s level b x))) l
+            (cond target (at_target plan s level b (suc k) x) (on_one (cond b (Waiting (suc k)) (Turning 0)) (cofactor s level b x)))
+            (on_one (Waiting k) (cofactor s level b x))) l
         by_stage true e true f =
             let target : plan.target ≡ k = eqb-true _ _ f in
             let here : plan.stage plan.target ≡ level = ap plan.stage target ∙ eqb-true _ _ e in
@@ -356,7 +347,7 @@ module _ (plan : Plan) (s : Store Entry) (valid : ValidPlan plan s) (level : ℕ
             acting_later b l x (cofactor s level b x) (omega arith) (reached_cofactor s level b x)
             ∙ ap (λ (t : Bool). cond (not t || b) (acting_on (suc level) (cofactor s level b x) l) (own b x))
             (control_stage plan s valid k level below here (eqb-false _ _ f) (not_second before (target_up_to plan s valid)))
-            ∙ by_bit b before
+            ∙ by_bit b
           where
             not_second : k < plan.target → plan.target ≤ plan.second → plan.second ≡ k → ⊥
             not_second before up_to_lem same = omega arith
@@ -364,8 +355,8 @@ module _ (plan : Plan) (s : Store Entry) (valid : ValidPlan plan s) (level : ℕ
             let ahead = strictly sound.ahead (eqb-false _ _ e) in
             acting_free b l x (cofactor s level b x) (target_ahead plan s valid k level sound.suits.0 ahead) (reached_cofactor s level b x)
             (control_between plan s valid k level below sound.suits.2 ahead)
-            ∙ sym (waiting_means k x below)
-    next_means_by (swapping k seen) x y sound = by_stage (eqb (plan.stage k) level) refl (eqb plan.second k) refl
+            ∙ sym (waiting_means k x)
+    next_means_by (Swapping k seen) x y sound = by_stage (eqb (plan.stage k) level) refl (eqb plan.second k) refl
       where
         x' : ℕ
         x' = cofactor s level b x
@@ -381,15 +372,12 @@ module _ (plan : Plan) (s : Store Entry) (valid : ValidPlan plan s) (level : ℕ
         later before =
             swapping_later b l seen x y (cofactor s level b x) (cofactor s level b y) before (reached_cofactor s level b x) (reached_cofactor s level b y)
 
-        swapping_means : (j : ℕ) → j ≤ plan.second → swapping_on (suc level) seen x' y' l ≡ meaning plan s (suc level) (on_both (swapping j seen) x' y') l
-        swapping_means j up_to_lem =
-            let last = valid.has_second in
-            let most = valid.few_stages in
-            sym (meaning_on plan s valid (suc level) l (swapping j seen) x' y' (omega arith))
+        swapping_means : (j : ℕ) → swapping_on (suc level) seen x' y' l ≡ meaning plan s (suc level) (on_both (Swapping j seen) x' y') l
+        swapping_means j = sym (meaning_on plan s valid (suc level) l (Swapping j seen) x' y')
 
         at_second : plan.stage k ≡ level → plan.second ≡ k → (same : Bool) → beq b seen ≡ same
             → cond active (cond same (own b x) (own seen y)) (own b x) ≡ meaning plan s (suc level) (cond same
-            (on_one (turning 0) (cofactor s level b x)) (chosen plan (suc k) 0 (cofactor s level b x) (cofactor s level seen y))) l
+            (on_one (Turning 0) (cofactor s level b x)) (chosen plan (suc k) 0 (cofactor s level b x) (cofactor s level seen y))) l
         at_second here is_second true e = either active (own b x) ∙ sym (plain_means plan s valid (suc level) l (cofactor s level b x))
           where
             either : (t : Bool) (u : Entry) → cond t u u ≡ u
@@ -397,20 +385,20 @@ module _ (plan : Plan) (s : Store Entry) (valid : ValidPlan plan s) (level : ℕ
             either false u = refl
         at_second here is_second false e =
             ap (λ (u : Entry). cond active u (own b x)) (sym (turned_zero (own seen y)))
-            ∙ sym (chosen_means plan s valid (suc level) l (cofactor s level b x) (cofactor s level seen y) (suc k) 0 (omega arith)
+            ∙ sym (chosen_means plan s valid (suc level) l (cofactor s level b x) (cofactor s level seen y) (suc k) 0
             (λ last. passed_stage plan k level sound.suits.2 here))
 
-        by_bit : (c : Bool) → k < plan.second → cond c (swapping_on (suc level) seen x' y' l) (own b x)
-            ≡ meaning plan s (suc level) (cond c (on_both (swapping (suc k) seen) x' y') (on_one (turning 0) x')) l
-        by_bit true more = swapping_means (suc k) more
-        by_bit false more = sym (plain_means plan s valid (suc level) l (cofactor s level b x))
+        by_bit : (c : Bool) → cond c (swapping_on (suc level) seen x' y' l) (own b x)
+            ≡ meaning plan s (suc level) (cond c (on_both (Swapping (suc k) seen) x' y') (on_one (Turning 0) x')) l
+        by_bit true = swapping_means (suc k)
+        by_bit false = sym (plain_means plan s valid (suc level) l (cofactor s level b x))
 
         by_stage : (here : Bool) → eqb (plan.stage k) level ≡ here → (second : Bool) → eqb plan.second k ≡ second
             → swapping_on level seen x y (b ∷ l) ≡ meaning plan s (suc level) (cond here
             (cond second
-            (cond (beq b seen) (on_one (turning 0) x') (chosen plan (suc k) 0 x' (cofactor s level seen y)))
-            (cond b (on_both (swapping (suc k) seen) x' y') (on_one (turning 0) x')))
-            (on_both (swapping k seen) x' y')) l
+            (cond (beq b seen) (on_one (Turning 0) x') (chosen plan (suc k) 0 x' (cofactor s level seen y)))
+            (cond b (on_both (Swapping (suc k) seen) x' y') (on_one (Turning 0) x')))
+            (on_both (Swapping k seen) x' y')) l
         by_stage true e true f =
             let here : plan.stage k ≡ level = eqb-true _ _ e in
             let is_second : plan.second ≡ k = eqb-true _ _ f in
@@ -430,7 +418,7 @@ module _ (plan : Plan) (s : Store Entry) (valid : ValidPlan plan s) (level : ℕ
             later (omega arith)
             ∙ ap (λ (t : Bool). cond (not t || b) (swapping_on (suc level) seen x' y' l) (own b x))
             (control_stage plan s valid k level below here (not_target sound.suits.0) (eqb-false _ _ f))
-            ∙ by_bit b more
+            ∙ by_bit b
           where
             not_target : plan.target < k → plan.target ≡ k → ⊥
             not_target past same = omega arith
@@ -439,24 +427,24 @@ module _ (plan : Plan) (s : Store Entry) (valid : ValidPlan plan s) (level : ℕ
             later (second_ahead plan s valid k level sound.suits.1 ahead)
             ∙ ap (λ (t : Bool). cond (not t || b) (swapping_on (suc level) seen x' y' l) (own b x))
             (control_between plan s valid k level below sound.suits.2 ahead)
-            ∙ swapping_means k sound.suits.1
-    next_means_by (choosing k e) x y sound =
+            ∙ swapping_means k
+    next_means_by (Choosing k e) x y sound =
         choosing_first b l k e x y
         ∙ ap₂ (choice ((not (control plan level) || b) && active) e) (reached_cofactor s level b y l) (reached_cofactor s level b x l)
         ∙ by_stage (eqb (plan.stage k) level) refl
       where
         chosen_next : (j : ℕ) → (j ≡ plan.stages → Passed plan j (suc level))
             → choice active e (own b y) (own b x) ≡ meaning plan s (suc level) (chosen plan j e (cofactor s level b x) (cofactor s level b y)) l
-        chosen_next j passed = sym (chosen_means plan s valid (suc level) l (cofactor s level b x) (cofactor s level b y) j e sound.suits.2 passed)
+        chosen_next j passed = sym (chosen_means plan s valid (suc level) l (cofactor s level b x) (cofactor s level b y) j e passed)
 
         by_bit : (c : Bool) → plan.stage k ≡ level → choice (c && active) e (own b y) (own b x) ≡ meaning plan s (suc level) (cond c
-            (chosen plan (suc k) e (cofactor s level b x) (cofactor s level b y)) (on_one (turning 0) (cofactor s level b x))) l
+            (chosen plan (suc k) e (cofactor s level b x) (cofactor s level b y)) (on_one (Turning 0) (cofactor s level b x))) l
         by_bit true here = chosen_next (suc k) (λ last. passed_stage plan k level sound.suits.3 here)
         by_bit false here = sym (plain_means plan s valid (suc level) l (cofactor s level b x))
 
         by_stage : (here : Bool) → eqb (plan.stage k) level ≡ here
             → choice ((not (control plan level) || b) && active) e (own b y) (own b x) ≡ meaning plan s (suc level) (cond here
-            (cond b (chosen plan (suc k) e (cofactor s level b x) (cofactor s level b y)) (on_one (turning 0) (cofactor s level b x)))
+            (cond b (chosen plan (suc k) e (cofactor s level b x) (cofactor s level b y)) (on_one (Turning 0) (cofactor s level b x)))
             (chosen plan k e (cofactor s level b x) (cofactor s level b y))) l
         by_stage true f =
             let here : plan.stage k ≡ level = eqb-true _ _ f in
@@ -480,4 +468,4 @@ module _ (plan : Plan) (s : Store Entry) (valid : ValidPlan plan s) (level : ℕ
     -- after a bit, a state means what the next state does
     pub meaning_next : (σ : State) → SoundAt plan s level σ → meaning plan s level σ (b ∷ l) ≡ meaning plan s (suc level) (next_state plan s level b σ) l
     unfolding meaning next_state
-    meaning_next σ sound = next_means_by (mode_of σ.mode) σ.x σ.y sound.1
+    meaning_next σ sound = next_means_by σ.mode σ.x σ.y sound

@@ -17,7 +17,6 @@ use Rattle.gates.proofs.LocalRules.{all_set_none}
 use Rattle.diagrams.specs.Diagram.{Store}
 use Rattle.transitions.specs.Plan.{Plan, among, targeted, control}
 use Rattle.transitions.specs.Valid.{ValidPlan, Passed}
-use Rattle.transitions.proofs.Turns.{phase_below}
 
 -- ---- among the stages
 
@@ -95,7 +94,8 @@ module _ (plan : Plan) (s : Store Entry) (valid : ValidPlan plan s) where
       by_swaps false e = let same = valid.target_only e in omega arith
 
   pub phase_small : (b : Bool) → phase plan.phases b < 8
-  phase_small b = phase_below plan.phases b refl valid.phase_zero valid.phase_one
+  phase_small true = valid.phase_one
+  phase_small false = valid.phase_zero
 
   -- ---- where a control is
 

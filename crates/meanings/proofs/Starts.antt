@@ -2,13 +2,14 @@
 -- Assumes nothing.
 use mathlib.Core.Path.{◌≡◌, refl, sym, ◌∙◌, ap, ap₂, fun_ext, ◌≡⟨◌⟩◌, ◌∎}
 use mathlib.Core.Bool.{Bool, true, false, not, cond, ◌&&◌, ◌||◌, or_comm, true≢false}
-use Prim.Native.Nat.{ℕ, zero, ◌+◌, ◌-◌, ◌*◌, ◌<◌, ◌≤◌, zero-le, min, max}
+use Prim.Native.Nat.{ℕ, ◌+◌, ◌-◌, ◌*◌, ◌<◌, zero-le, min, max}
 use native.Mathlib.Decide.{dec_lt}
 use native.Mathlib.Nat.{zero-add, sub-zero}
 use native.Mathlib.Omega.{arith}
 use lib.Dec.{eqb}
 use lib.ListN.{length, get_or, set, length-set}
 use borrow.Author.Tests.{eq-eqb, ne_eqb}
+use Rattle.std.specs.Prelude.{Some, None}
 use Rattle.algebra.specs.declared.Entry.{Entry}
 use Rattle.algebra.specs.Entry.{𝟘, ◌⊕◌, ◌⊖◌, turned}
 use Rattle.algebra.specs.Matrix.{Bits, Matrix, everywhere}
@@ -28,15 +29,14 @@ use Rattle.diagrams.proofs.Places.{levels_double}
 use Rattle.diagrams.proofs.Diagrams.{diagram_reduced}
 use Rattle.diagrams.proofs.References.{ref_of_code}
 use Rattle.transitions.specs.Plan.{Plan, plan_rule, among, targeted, control}
-use Rattle.transitions.specs.State.{waiting, meaning, made, inside}
+use Rattle.transitions.specs.State.{meaning, made, inside}
 use Rattle.transitions.specs.Next.{start}
 use Rattle.transitions.specs.Valid.{IsZero, ValidPlan, ValidState}
 use Rattle.plans.specs.Prepare.{as_number, side_level, product_on, PlanFor}
 use Rattle.plans.proofs.Plans.{names_fit}
 use Rattle.meanings.proofs.Stages.{among_none, among_one}
 use Rattle.meanings.proofs.Cofactors.{Asks}
-use Rattle.meanings.proofs.Sound.{SoundAt, sound_on, sound_valid}
-use Rattle.meanings.proofs.Meanings.{meaning_on}
+use Rattle.meanings.proofs.Sound.{SoundAt, sound_valid}
 use Rattle.meanings.proofs.Sides.{level_on, side_level_is, Spreads, phases_on, product_place}
 use Rattle.meanings.proofs.Walks.{everywhere_ext, made_from, inside_from}
 
@@ -156,24 +156,21 @@ keeps_one (fredkin mask p q) e = absurd (true≢false e)
 -- ---- the source's zero
 
 -- the reference of a value that is 0
-pub zero_found : (s : Store Entry) (k z : ℕ) → z ≡ 2 * k → get_or s.values k 𝟘 ≡ 𝟘 → IsZero s z
+pub zero_found : (s : Store Entry) (k z : ℕ) → z ≡ 2 * k → get_or s.values k 𝟘 ≡ 𝟘 → IsZero s (Some z)
 zero_found s k z is_k zero_there = ((λ j below here. ap (λ (m : ℕ). get_or s.values m 𝟘) (same j here) ∙ zero_there), (λ i below here. odd i here))
   where
-    same : (j : ℕ) → 2 * j ≡ z → j ≡ k
-    same j here = omega arith
+    same : (j : ℕ) → Some z ≡ Some (2 * j) → j ≡ k
+    same j here = let is : z ≡ 2 * j = cc in omega arith
 
-    odd : (i : ℕ) → 2 * i + 1 ≡ z → ⊥
-    odd i here = omega arith
+    odd : (i : ℕ) → Some z ≡ Some (2 * i + 1) → ⊥
+    odd i here = let is : z ≡ 2 * i + 1 = cc in omega arith
 
--- 4294967293, where no value is 0
-pub zero_absent : (s : Store Entry) → length s.nodes ≤ 65536 → IsZero s 4294967293
-zero_absent s few = ((λ j below here. absurd (even j here)), (λ i below here. past i below here))
+-- none, where no value is 0
+pub zero_absent : (s : Store Entry) → IsZero s None
+zero_absent s = ((λ j below here. absurd (none (2 * j) here)), (λ i below here. none (2 * i + 1) here))
   where
-    even : (j : ℕ) → 2 * j ≡ 4294967293 → ⊥
-    even j here = omega arith
-
-    past : (i : ℕ) → i < length s.nodes → 2 * i + 1 ≡ 4294967293 → ⊥
-    past i below here = omega arith
+    none : (z : ℕ) → None ≡ Some z → ⊥
+    none z here = cc
 
 sides_apart : (right : Bool) (p q : ℕ) → level_on right p ≡ level_on (not right) q → ⊥
 sides_apart false p q e = let a = levels_double p in let b = levels_double q in omega arith
@@ -350,8 +347,7 @@ module _ (n : ℕ) (right : Bool) (g : Gate) (M : Matrix) (plan : Plan) (fits : 
   start_sound =
       let seen = (diagram_closed n M).seen in
       let asks : Asks plan source 0 (code root) = record { refers = rw (ref_of_code root) seen; from = zero-le } in
-      sound_on plan source 0 (waiting 0) (code root) (code root) (omega arith)
-      (record { x_asks = asks; y_asks = asks; suits = (zero-le, refl, λ j h. absurd (none j h)); ahead = zero-le })
+      record { x_asks = asks; y_asks = asks; suits = (zero-le, refl, λ j h. absurd (none j h)); ahead = zero-le }
     where
       none : (j : ℕ) → j < 0 → ⊥
       none j h = omega arith
@@ -361,14 +357,13 @@ module _ (n : ℕ) (right : Bool) (g : Gate) (M : Matrix) (plan : Plan) (fits : 
 
   -- from level 0 on the start means the product
   start_means : (l : Bits) → length l ≡ levels n → meaning plan source 0 (start root) l ≡ entries (product_on right n g M) l
+  unfolding meaning
   start_means l size =
       let rule = gate_rule g in
       let side = phases_on right rule in
       let act : ℕ → ℕ → (Bits → Entry) → Bits → Entry = acted (plan_rule plan) plan.phases (control plan) in
       let t = level_on right (target g) in
       let t' = level_on right (second g) in
-      meaning plan source 0 (start root) l
-      ≡⟨ meaning_on plan source valid 0 l (waiting 0) (code root) (code root) (omega arith) ⟩
       acted (plan_rule plan) plan.phases (λ i. control plan (0 + i)) (plan.stage plan.target - 0) (plan.stage plan.second - 0)
       (reached 𝟘 source 0 (ref_of (code root))) l
       ≡⟨ ap₂ (λ (P : ℕ → Bool) (r : Ref). acted (plan_rule plan) plan.phases P (plan.stage plan.target - 0) (plan.stage plan.second - 0)

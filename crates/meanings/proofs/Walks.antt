@@ -14,10 +14,11 @@ use Rattle.algebra.specs.Width.{entry_in_width}
 use Rattle.diagrams.specs.Diagram.{Ref, value, node, branch, Store, rooted, same_entry, put_value, make_node, reduce, ref_of}
 use Rattle.diagrams.proofs.Tests.{entry_decides}
 use Rattle.diagrams.proofs.Again.{Extends, reduce_step, reduce_ext, reduce_extends, reduce_again, reduce_skip}
+use Rattle.transitions.specs.declared.Mode.{Mode}
+use Rattle.transitions.specs.declared.Mode.TheVariants.{Turning, Adding, Subtracting, Waiting, Swapping, Choosing}
 use Rattle.transitions.specs.declared.State.{State}
 use Rattle.transitions.specs.Plan.{Plan}
-use Rattle.transitions.specs.State.{level_of, Mode, turning, adding, subtracting, waiting, swapping, choosing, mode_of}
-use Rattle.transitions.specs.State.{meant_by, meaning, top_by, top, made, inside}
+use Rattle.transitions.specs.State.{level_of, meant_by, meaning, top_by, top, made, inside}
 use Rattle.transitions.specs.Source.{Refers}
 use Rattle.transitions.specs.Next.{is_value, is_leaf_by, is_leaf, leaf_by, leaf_entry, next_state}
 use Rattle.transitions.specs.Valid.{ValidPlan, ValidState, Suits}
@@ -151,21 +152,21 @@ module _ (plan : Plan) (s : Store Entry) (valid : ValidPlan plan s) where
   -- ---- a state that asks no more
 
   leaf_top_by : (m : Mode) (x y : Ref) → is_leaf_by m x y ≡ true → top_by plan s m x y ≡ plan.levels
-  leaf_top_by (turning e) (value j) y leaf = refl
-  leaf_top_by (turning e) (node i) y leaf = absurd (true≢false (sym leaf))
-  leaf_top_by adding (value j) (value k) leaf = omega arith
-  leaf_top_by adding (value j) (node i) leaf = absurd (true≢false (sym leaf))
-  leaf_top_by adding (node i) y leaf = absurd (true≢false (sym leaf))
-  leaf_top_by subtracting (value j) (value k) leaf = omega arith
-  leaf_top_by subtracting (value j) (node i) leaf = absurd (true≢false (sym leaf))
-  leaf_top_by subtracting (node i) y leaf = absurd (true≢false (sym leaf))
-  leaf_top_by (waiting k) x y leaf = absurd (true≢false (sym leaf))
-  leaf_top_by (swapping k b) x y leaf = absurd (true≢false (sym leaf))
-  leaf_top_by (choosing k e) x y leaf = absurd (true≢false (sym leaf))
+  leaf_top_by (Turning e) (value j) y leaf = refl
+  leaf_top_by (Turning e) (node i) y leaf = absurd (true≢false (sym leaf))
+  leaf_top_by Adding (value j) (value k) leaf = omega arith
+  leaf_top_by Adding (value j) (node i) leaf = absurd (true≢false (sym leaf))
+  leaf_top_by Adding (node i) y leaf = absurd (true≢false (sym leaf))
+  leaf_top_by Subtracting (value j) (value k) leaf = omega arith
+  leaf_top_by Subtracting (value j) (node i) leaf = absurd (true≢false (sym leaf))
+  leaf_top_by Subtracting (node i) y leaf = absurd (true≢false (sym leaf))
+  leaf_top_by (Waiting k) x y leaf = absurd (true≢false (sym leaf))
+  leaf_top_by (Swapping k b) x y leaf = absurd (true≢false (sym leaf))
+  leaf_top_by (Choosing k e) x y leaf = absurd (true≢false (sym leaf))
 
   pub leaf_top : (σ : State) → is_leaf σ ≡ true → top plan s σ ≡ plan.levels
   unfolding is_leaf top
-  leaf_top σ leaf = leaf_top_by (mode_of σ.mode) (ref_of σ.x) (ref_of σ.y) leaf
+  leaf_top σ leaf = leaf_top_by σ.mode (ref_of σ.x) (ref_of σ.y) leaf
 
   value_level : (r : Ref) → Refers s r → plan.levels ≤ level_of plan s r → is_value r ≡ true
   value_level (value j) refers past = refl
@@ -176,33 +177,33 @@ module _ (plan : Plan) (s : Store Entry) (valid : ValidPlan plan s) where
 
   top_leaf_by : (level : ℕ) (m : Mode) (x y : Ref) (u w : ℕ) → Refers s x → Refers s y → Suits plan level m u w → plan.levels ≤ top_by plan s m x y
       → is_leaf_by m x y ≡ true
-  top_leaf_by level (turning e) x y u w p q suits past = value_level x p past
-  top_leaf_by level adding x y u w p q suits past = both_values (value_level x p (omega arith)) (value_level y q (omega arith))
-  top_leaf_by level subtracting x y u w p q suits past = both_values (value_level x p (omega arith)) (value_level y q (omega arith))
-  top_leaf_by level (waiting k) x y u w p q suits past =
+  top_leaf_by level (Turning e) x y u w p q suits past = value_level x p past
+  top_leaf_by level Adding x y u w p q suits past = both_values (value_level x p (omega arith)) (value_level y q (omega arith))
+  top_leaf_by level Subtracting x y u w p q suits past = both_values (value_level x p (omega arith)) (value_level y q (omega arith))
+  top_leaf_by level (Waiting k) x y u w p q suits past =
       let up_to_lem = suits.0 in
       let target_below = valid.has_target in
       let below = valid.stages_below k (omega arith) in
       absurd (omega arith)
-  top_leaf_by level (swapping k b) x y u w p q suits past =
+  top_leaf_by level (Swapping k b) x y u w p q suits past =
       let up_to_lem = suits.1 in
       let last = valid.has_second in
       let below = valid.stages_below k (omega arith) in
       absurd (omega arith)
-  top_leaf_by level (choosing k e) x y u w p q suits past = let below = valid.stages_below k suits.1 in absurd (omega arith)
+  top_leaf_by level (Choosing k e) x y u w p q suits past = let below = valid.stages_below k suits.1 in absurd (omega arith)
 
   pub top_leaf : (σ : State) → ValidState plan s σ → top plan s σ ≡ plan.levels → is_leaf σ ≡ true
   unfolding is_leaf top
   top_leaf σ ok past =
-      top_leaf_by (top plan s σ) (mode_of σ.mode) (ref_of σ.x) (ref_of σ.y) σ.x σ.y ok.x_refers ok.y_refers ok.suits (omega arith)
+      top_leaf_by (top plan s σ) σ.mode (ref_of σ.x) (ref_of σ.y) σ.x σ.y ok.x_refers ok.y_refers ok.suits (omega arith)
 
   leaf_means_by : (level : ℕ) (m : Mode) (x y : Ref) → is_leaf_by m x y ≡ true → meant_by plan s level m x y [] ≡ leaf_by s m x y
-  leaf_means_by level (turning e) x y leaf = ap (turned e) (reached_nil s level 0 x)
-  leaf_means_by level adding x y leaf = ap₂ ◌⊕◌ (reached_nil s level 0 x) (reached_nil s level 0 y)
-  leaf_means_by level subtracting x y leaf = ap₂ ◌⊖◌ (reached_nil s level 0 x) (reached_nil s level 0 y)
-  leaf_means_by level (waiting k) x y leaf = absurd (true≢false (sym leaf))
-  leaf_means_by level (swapping k b) x y leaf = absurd (true≢false (sym leaf))
-  leaf_means_by level (choosing k e) x y leaf = absurd (true≢false (sym leaf))
+  leaf_means_by level (Turning e) x y leaf = ap (turned e) (reached_nil s level 0 x)
+  leaf_means_by level Adding x y leaf = ap₂ ◌⊕◌ (reached_nil s level 0 x) (reached_nil s level 0 y)
+  leaf_means_by level Subtracting x y leaf = ap₂ ◌⊖◌ (reached_nil s level 0 x) (reached_nil s level 0 y)
+  leaf_means_by level (Waiting k) x y leaf = absurd (true≢false (sym leaf))
+  leaf_means_by level (Swapping k b) x y leaf = absurd (true≢false (sym leaf))
+  leaf_means_by level (Choosing k e) x y leaf = absurd (true≢false (sym leaf))
 
   module _ (σ : State) (leaf : is_leaf σ ≡ true) where
     none_left : plan.levels - top plan s σ ≡ 0
@@ -210,7 +211,7 @@ module _ (plan : Plan) (s : Store Entry) (valid : ValidPlan plan s) where
 
     leaf_means : meaning plan s (top plan s σ) σ [] ≡ leaf_entry s σ
     unfolding is_leaf meaning leaf_entry
-    leaf_means = leaf_means_by (top plan s σ) (mode_of σ.mode) (ref_of σ.x) (ref_of σ.y) leaf
+    leaf_means = leaf_means_by (top plan s σ) σ.mode (ref_of σ.x) (ref_of σ.y) leaf
 
     pub made_leaf : (t : Store Entry) → made plan s σ t ≡ put_value same_entry (leaf_entry s σ) t
     unfolding made reduce

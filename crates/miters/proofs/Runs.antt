@@ -24,6 +24,7 @@ use Rattle.diagrams.proofs.Tests.{both_true, true_both}
 use Rattle.diagrams.proofs.Places.{length_place, length_halves, place_halves}
 use Rattle.stores.proofs.Columns.{take_column}
 use Rattle.diagrams.proofs.Diagrams.{diagram_unique}
+use Rattle.miters.specs.declared.StepFault.TheVariants.{OutsideWidth, NoRoom}
 use Rattle.miters.specs.declared.Refusal.{Refusal}
 use Rattle.miters.specs.declared.Refusal.TheVariants.{Step as at_step}
 use Rattle.miters.specs.Miter.{Over, start, Step, stepped, run, steps, miter}
@@ -86,17 +87,17 @@ module _ (lent : Lent) (n : ℕ) where
     follows_cons wide room (finishes pass) =
         subst (λ (k : ℕ). Follows lent n before M (s ∷ ss) (done k (run n ss next))) (omega arith) (finishes (pass_cons (length ss) wide room pass))
     follows_cons wide room (too_wide k h pass out) =
-        subst (λ (i : ℕ). Follows lent n before M (s ∷ ss) (stopped (at_step 13 i))) (omega arith)
+        subst (λ (i : ℕ). Follows lent n before M (s ∷ ss) (stopped (at_step OutsideWidth i))) (omega arith)
         (too_wide (suc k) (omega arith) (pass_cons k wide room pass) out)
     follows_cons wide room (too_full k h pass fit out) =
-        subst (λ (i : ℕ). Follows lent n before M (s ∷ ss) (stopped (at_step 14 i))) (omega arith)
+        subst (λ (i : ℕ). Follows lent n before M (s ∷ ss) (stopped (at_step NoRoom i))) (omega arith)
         (too_full (suc k) (omega arith) (pass_cons k wide room pass) fit out)
 
-    pub follow_too_wide : in_width lent n next.entries ≡ false → follow lent n before (s ∷ ss) M ≡ stopped (at_step 13 before)
+    pub follow_too_wide : in_width lent n next.entries ≡ false → follow lent n before (s ∷ ss) M ≡ stopped (at_step OutsideWidth before)
     follow_too_wide wide = rw wide
 
     pub follow_too_full : in_width lent n next.entries ≡ true → has_room lent n next.entries ≡ false
-        → follow lent n before (s ∷ ss) M ≡ stopped (at_step 14 before)
+        → follow lent n before (s ∷ ss) M ≡ stopped (at_step NoRoom before)
     follow_too_full wide room = rw (wide, room)
 
     pub follow_on : in_width lent n next.entries ≡ true → has_room lent n next.entries ≡ true
@@ -106,9 +107,10 @@ module _ (lent : Lent) (n : ℕ) where
     follows_step : (a b : Bool) → in_width lent n next.entries ≡ a → has_room lent n next.entries ≡ b
         → Follows lent n (suc before) next ss (follow lent n (suc before) ss next) → Follows lent n before M (s ∷ ss) (follow lent n before (s ∷ ss) M)
     follows_step false b wide room onward = subst (Follows lent n before M (s ∷ ss))
-        (ap (λ (i : ℕ). stopped (at_step 13 i)) (add-zero before) ∙ sym (follow_too_wide wide)) (too_wide 0 (omega arith) (pass_none M (s ∷ ss)) wide)
+        (ap (λ (i : ℕ). stopped (at_step OutsideWidth i)) (add-zero before) ∙ sym (follow_too_wide wide)) (too_wide 0 (omega arith) (pass_none M (s ∷ ss)) wide)
     follows_step true false wide room onward = subst (Follows lent n before M (s ∷ ss))
-        (ap (λ (i : ℕ). stopped (at_step 14 i)) (add-zero before) ∙ sym (follow_too_full wide room)) (too_full 0 (omega arith) (pass_none M (s ∷ ss)) wide room)
+        (ap (λ (i : ℕ). stopped (at_step NoRoom i)) (add-zero before) ∙ sym (follow_too_full wide room))
+        (too_full 0 (omega arith) (pass_none M (s ∷ ss)) wide room)
     follows_step true true wide room onward = subst (Follows lent n before M (s ∷ ss)) (sym (follow_on wide room)) (follows_cons wide room onward)
 
   follow_follows : (before : ℕ) (ss : List Step) (M : Over) → Follows lent n before M ss (follow lent n before ss M)
@@ -121,7 +123,7 @@ module _ (lent : Lent) (n : ℕ) where
   unfolding ended
   ended_ends ss = by_test (has_room lent n start.entries) refl
     where
-      by_test : (b : Bool) → has_room lent n start.entries ≡ b → Ends lent n ss (cond b (follow lent n 0 ss start) (stopped (at_step 14 0)))
+      by_test : (b : Bool) → has_room lent n start.entries ≡ b → Ends lent n ss (cond b (follow lent n 0 ss start) (stopped (at_step NoRoom 0)))
       by_test true room = follows room (follow_follows 0 ss start)
       by_test false room = full_at_once room
 
@@ -141,13 +143,13 @@ module _ (lent : Lent) (n : ℕ) where
     follows_step_only only (finishes pass) =
         passed_on (length ss) pass (finishes (pass_rest (length ss) pass)) only ∙ ap (λ (k : ℕ). done k (run n ss (stepped n s M))) (omega arith)
     follows_step_only only (too_wide zero h pass out) =
-        follow_too_wide before M s ss out ∙ ap (λ (k : ℕ). stopped (at_step 13 k)) (sym (add-zero before))
+        follow_too_wide before M s ss out ∙ ap (λ (k : ℕ). stopped (at_step OutsideWidth k)) (sym (add-zero before))
     follows_step_only only (too_wide (suc k) h pass out) =
-        passed_on k pass (too_wide k (omega arith) (pass_rest k pass) out) only ∙ ap (λ (i : ℕ). stopped (at_step 13 i)) (omega arith)
+        passed_on k pass (too_wide k (omega arith) (pass_rest k pass) out) only ∙ ap (λ (i : ℕ). stopped (at_step OutsideWidth i)) (omega arith)
     follows_step_only only (too_full zero h pass fit out) =
-        follow_too_full before M s ss fit out ∙ ap (λ (k : ℕ). stopped (at_step 14 k)) (sym (add-zero before))
+        follow_too_full before M s ss fit out ∙ ap (λ (k : ℕ). stopped (at_step NoRoom k)) (sym (add-zero before))
     follows_step_only only (too_full (suc k) h pass fit out) =
-        passed_on k pass (too_full k (omega arith) (pass_rest k pass) fit out) only ∙ ap (λ (i : ℕ). stopped (at_step 14 i)) (omega arith)
+        passed_on k pass (too_full k (omega arith) (pass_rest k pass) fit out) only ∙ ap (λ (i : ℕ). stopped (at_step NoRoom i)) (omega arith)
 
   follows_only : (before : ℕ) (ss : List Step) (M : Over) {e : Ended} → Follows lent n before M ss e → follow lent n before ss M ≡ e
   follows_only before [] M (finishes pass) = ap (λ (k : ℕ). done k M) (sym (add-zero before))

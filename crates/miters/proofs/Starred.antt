@@ -12,6 +12,8 @@ use Rattle.algebra.specs.Width.{number_in_width}
 use Rattle.gates.specs.Gate.{Kind, X, Y, Z, H, S, T, CNOT, CZ, Gate, on, pair, matrix}
 use Rattle.diagrams.specs.Diagram.{reduce}
 use Rattle.stores.specs.Columns.{Columns, held, cleared}
+use Rattle.miters.specs.declared.StepFault.{StepFault}
+use Rattle.miters.specs.declared.StepFault.TheVariants.{OutsideWidth}
 use Rattle.miters.specs.declared.Refusal.TheVariants.{Step}
 use Rattle.miters.specs.declared.Verdict.{Verdict}
 use Rattle.miters.specs.declared.Verdict.TheVariants.{Equal, Different, Refused}
@@ -57,8 +59,8 @@ two u v = record { width = 32; qubits = 2; u = u; v = v }
 abbrev finishes : Verdict → ℕ → ℕ → ℕ → ℕ → Answer
 finishes verdict exponent steps nodes values = reports (record { verdict = verdict; exponent = exponent; steps = steps; nodes = nodes; values = values })
 
-abbrev stops : ℕ → ℕ → Answer
-stops number steps = reports (record { verdict = Refused (Step number steps); exponent = 0; steps = 0; nodes = 0; values = 0 })
+abbrev stops : StepFault → ℕ → Answer
+stops fault steps = reports (record { verdict = Refused (Step fault steps); exponent = 0; steps = 0; nodes = 0; values = 0 })
 
 abbrev differs : ℕ → ℕ → Entry → Entry → Verdict
 differs row column entry corner = Different (record { row = row; column = column; entry = entry; corner = corner })
@@ -99,11 +101,11 @@ circuits =
     -- 8
     ∷ (report_of (two (pair CNOT 0 1 ∷ []) (pair CNOT 1 0 ∷ [])), finishes (differs 1 1 (plain (pos 0)) (plain (pos 1))) 0 2 9 2)
     -- 9
-    ∷ (report_of (alone 2 (H ∷ H ∷ []) []), stops 13 1)
+    ∷ (report_of (alone 2 (H ∷ H ∷ []) []), stops OutsideWidth 1)
     ∷ (report_of (alone 3 (H ∷ H ∷ []) []), finishes (Equal (plain (pos 2))) 2 2 3 2)
     -- 10
     ∷ (report_of (alone 2 (X ∷ Z ∷ X ∷ Z ∷ H ∷ H ∷ []) []), finishes (Equal (plain (negsuc 1))) 2 6 3 2)
-    ∷ (report_of (alone 2 (X ∷ Z ∷ X ∷ Z ∷ H ∷ H ∷ Z ∷ []) []), stops 13 6)
+    ∷ (report_of (alone 2 (X ∷ Z ∷ X ∷ Z ∷ H ∷ H ∷ Z ∷ []) []), stops OutsideWidth 6)
     ∷ []
 
 pub starred : map (λ row. answer row.0) circuits ≡ map (λ row. row.1) circuits

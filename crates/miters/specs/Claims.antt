@@ -6,6 +6,7 @@ use Rattle.algebra.specs.Matrix.{Bits, Matrix}
 use Rattle.gates.specs.Gate.{Gate}
 use Rattle.diagrams.specs.Diagram.{node, Diagram, levels}
 use Rattle.stores.specs.Columns.{held, cleared}
+use Rattle.miters.specs.declared.StepFault.TheVariants.{OutsideWidth, NoRoom}
 use Rattle.miters.specs.declared.Refusal.{Refusal}
 use Rattle.miters.specs.declared.Refusal.TheVariants.{Step as at_step}
 use Rattle.miters.specs.declared.Verdict.{Verdict}
@@ -45,13 +46,13 @@ module _ (lent : Lent) (n : ℕ) where
   pub data Follows (before : ℕ) (M : Over) (ss : List Step) : Ended → Type 0 where
     finishes : Pass M ss (length ss) → Follows before M ss (done (before + length ss) (run n ss M))
     too_wide : (k : ℕ) → k < length ss → Pass M ss k → in_width lent n (after M ss (suc k)) ≡ false
-        → Follows before M ss (stopped (at_step 13 (before + k)))
+        → Follows before M ss (stopped (at_step OutsideWidth (before + k)))
     too_full : (k : ℕ) → k < length ss → Pass M ss k → in_width lent n (after M ss (suc k)) ≡ true → has_room lent n (after M ss (suc k)) ≡ false
-        → Follows before M ss (stopped (at_step 14 (before + k)))
+        → Follows before M ss (stopped (at_step NoRoom (before + k)))
 
   -- the identity has no room, or the steps are followed from it
   pub data Ends (ss : List Step) : Ended → Type 0 where
-    full_at_once : has_room lent n start.entries ≡ false → Ends ss (stopped (at_step 14 0))
+    full_at_once : has_room lent n start.entries ≡ false → Ends ss (stopped (at_step NoRoom 0))
     follows : {e : Ended} → has_room lent n start.entries ≡ true → Follows 0 start ss e → Ends ss e
 
 -- ---- two outcomes

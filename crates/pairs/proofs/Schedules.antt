@@ -6,9 +6,10 @@ use Prim.Native.Nat.{ℕ, zero, suc, ◌+◌, ◌-◌, ◌≤◌}
 use native.Mathlib.Omega.{arith}
 use lib.ListN.{length, take, drop, length-append}
 use lib.Seq.{take-append_seam}
-use Rattle.schedules.specs.declared.Made.{Made}
+use borrow.Author.Tests.{le-leb}
+use Rattle.std.specs.Prelude.{Result, Ok}
+use Rattle.schedules.specs.declared.ScheduleFault.{ScheduleFault}
 use Rattle.schedules.specs.Schedule.{gate_limit, next_step, steps_from, proportional, made, filled}
-use Rattle.schedules.proofs.Makers.{made_steps}
 use Rattle.pairs.specs.Pair.{gate_count}
 use Rattle.pairs.proofs.Counts.{count_few}
 
@@ -19,10 +20,15 @@ length_steps m p i j (suc left) = ap suc (length_steps m p (i + 1 - next_step m 
 
 -- ---- what the maker leaves
 
+-- it makes a schedule where the counts are within their limit and the buffer has room
+made_steps : (m p : ℕ) (before : List ℕ) → m ≤ gate_limit → p ≤ gate_limit → m + p ≤ length before → Ok (m + p) ≡ made m p before
+unfolding made
+made_steps m p before first second fits = rw (le-leb _ _ first, le-leb _ _ second, le-leb _ _ fits)
+
 module _ (m p : ℕ) (before : List ℕ) (first : m ≤ gate_limit) (second : p ≤ gate_limit) (fits : m + p ≤ length before) where
-  module _ {answer : Made} {after : List ℕ} (is : answer ≡ made m p before) (left : after ≡ filled m p answer before) where
+  module _ {answer : Result ℕ ScheduleFault} {after : List ℕ} (is : answer ≡ made m p before) (left : after ≡ filled m p answer before) where
     holds : after ≡ proportional m p ++ drop (m + p) before
-    holds = left ∙ ap (λ (a : Made). filled m p a before) (is ∙ sym (made_steps m p before first second fits))
+    holds = left ∙ ap (λ (a : Result ℕ ScheduleFault). filled m p a before) (is ∙ sym (made_steps m p before first second fits))
 
     made_room : m + p ≤ length after
     made_room = omega (arith, ap length holds, length-append (proportional m p) (drop (m + p) before), length_steps m p 0 0 (m + p))
@@ -35,16 +41,16 @@ module _ (m p : ℕ) (before : List ℕ) (first : m ≤ gate_limit) (second : p 
 
 -- ---- in a buffer with room for any two lists
 
--- the first slots, as many as there are steps, hold the schedule of lists u and v
-pub record Scheduled (u v : List ℕ) (steps : ℕ) (buffer : List ℕ) : Type 0 where
-  pub few : steps ≤ 8192
+-- the schedule is made, and the first slots, as many as there are steps, hold that of lists u and v
+pub record Scheduled (u v : List ℕ) (answer : Result ℕ ScheduleFault) (steps : ℕ) (buffer : List ℕ) : Type 0 where
+  pub made : answer ≡ Ok steps
   pub room : steps ≤ length buffer
   pub front : take steps buffer ≡ proportional (gate_count u) (gate_count v)
 
-pub scheduled : (u v : List ℕ) {m p : ℕ} {answer : Made} (before : List ℕ) {after : List ℕ} → 8192 ≤ length before
-    → m ≡ gate_count u → p ≡ gate_count v → answer ≡ made m p before → after ≡ filled m p answer before → Scheduled u v (m + p) after
+pub scheduled : (u v : List ℕ) {m p : ℕ} {answer : Result ℕ ScheduleFault} (before : List ℕ) {after : List ℕ} → 8192 ≤ length before
+    → m ≡ gate_count u → p ≡ gate_count v → answer ≡ made m p before → after ≡ filled m p answer before → Scheduled u v answer (m + p) after
 scheduled u v {m} {p} before long first second is left = record {
-  few = omega (arith, few_u, few_v);
+  made = is ∙ sym (made_steps m p before few_u few_v fits);
   room = made_room m p before few_u few_v fits is left;
   front = made_front m p before few_u few_v fits is left ∙ ap₂ proportional first second;
 }

@@ -3,7 +3,7 @@
 use mathlib.Core.Path.{◌≡◌, refl, sym, ◌∙◌, ap, ap₂, fun_ext, ◌≡⟨◌⟩◌, ◌∎}
 use mathlib.Core.Bool.{Bool, true, false, cond, not, ◌&&◌, beq, and-true, and-false, and_assoc}
 use mathlib.Core.List.{[], ◌∷◌}
-use mathlib.Core.Option.{Option, none, some}
+use mathlib.Core.Option.{Option as Lowest, none, some}
 use Prim.Native.Nat.{ℕ, zero, suc, ◌+◌, ◌*◌}
 use native.Mathlib.Omega.{arith}
 use lib.ListN.{length}
@@ -13,10 +13,10 @@ use Rattle.algebra.specs.Matrix.{Bits, same}
 use Rattle.diagrams.specs.Diagram.{levels, rows, columns}
 use Rattle.diagrams.proofs.Places.{length_halves}
 use Rattle.miters.specs.Report.{lower, lowest}
-use Rattle.places.specs.declared.Found.{Found}
-use Rattle.places.specs.declared.Found.TheVariants.{Nowhere, At}
+use Rattle.std.specs.Prelude.{Option, Some, None}
+use Rattle.places.specs.declared.Place.{Place}
 use Rattle.places.specs.declared.Task.{Task}
-use Rattle.places.specs.Search.{onward, forbids_from, found_from, sought}
+use Rattle.places.specs.Search.{onward, is_zero, allows, forbids_from, found_at, found_from, sought}
 
 -- ---- the lowest bits that pass a test
 
@@ -72,23 +72,23 @@ halves_cons b [] = (refl, refl)
 halves_cons b (c ∷ l) = let h = halves_cons c l in (ap (λ (m : Bits). b ∷ m) (sym h.1), sym h.0)
 
 -- what is found first
-abbrev pub first_of : Found → Found → Found
-first_of Nowhere other = other
-first_of (At row column v) other = At row column v
+abbrev pub first_of : Option Place → Option Place → Option Place
+first_of None other = other
+first_of (Some place) other = Some place
 
 -- a place that is found ends the search
-abbrev pub Ends : (ℕ → ℕ → ℕ → Found) → Type 0
-Ends at = (x y v : ℕ) (other : Found) → first_of (at x y v) other ≡ at x y v
+abbrev pub Ends : (ℕ → ℕ → ℕ → Option Place) → Type 0
+Ends at = (x y v : ℕ) (other : Option Place) → first_of (at x y v) other ≡ at x y v
 
-module _ (at : ℕ → ℕ → ℕ → Found) (f : Bits → ℕ) (x y : ℕ) where
-  abbrev turned : ℕ → ℕ → ℕ → Found
+module _ (at : ℕ → ℕ → ℕ → Option Place) (f : Bits → ℕ) (x y : ℕ) where
+  abbrev turned : ℕ → ℕ → ℕ → Option Place
   turned = λ y x v. at x y v
 
   found_cons : (b : Bool) (l : Bits)
       → found_from at f x y (some (b ∷ l)) ≡ found_from turned (λ m. f (b ∷ m)) y (cond b (2 * x + 1) (2 * x)) (some l)
   found_cons b l = let h = halves_cons b l in ap₂ (λ (r c : Bits). at (onward x r) (onward y c) (f (b ∷ l))) h.0 h.1
 
-  found_lower : Ends at → (p q : Option Bits) → found_from at f x y (lower p q)
+  found_lower : Ends at → (p q : Lowest Bits) → found_from at f x y (lower p q)
       ≡ first_of (found_from turned (λ l. f (false ∷ l)) y (2 * x) p) (found_from turned (λ l. f (true ∷ l)) y (2 * x + 1) q)
   found_lower ends none none = refl
   found_lower ends none (some l) = found_cons true l
@@ -98,7 +98,7 @@ module _ (at : ℕ → ℕ → ℕ → Found) (f : Bits → ℕ) (x y : ℕ) whe
     forbids_cons : (b : Bool) (l : Bits) → forbids_from task f x y (b ∷ l) ≡ forbids_from task (λ m. f (b ∷ m)) y (cond b (2 * x + 1) (2 * x)) l
     forbids_cons b l =
         let h = halves_cons b l in
-        ap (λ (t : Bool). not (eqb (f (b ∷ l)) (cond t task.corner task.zero)))
+        ap (λ (t : Bool). not (allows task t (f (b ∷ l))))
         (ap₂ (λ (r c : Bits). eqb (onward x r) (onward y c)) h.0 h.1
         ∙ eqb_iff (onward x (b ∷ columns l)) (onward y (rows l)) (onward y (rows l)) (onward x (b ∷ columns l)) sym sym)
 
@@ -118,60 +118,60 @@ module _ (at : ℕ → ℕ → ℕ → Found) (f : Bits → ℕ) (x y : ℕ) whe
 
 -- ---- nothing
 
-pub first_nowhere : (p q : Found) → first_of p q ≡ Nowhere → p ≡ Nowhere
-first_nowhere Nowhere q e = refl
-first_nowhere (At row column v) q e = let impossible : ◌≡◌ {A = ℕ} 0 1 = cc in absurd (omega arith)
+pub first_nowhere : (p q : Option Place) → first_of p q ≡ None → p ≡ None
+first_nowhere None q e = refl
+first_nowhere (Some place) q e = cc
 
 module _ (task : Task) (k : ℕ) (f : Bits → ℕ) (x y : ℕ) where
   -- nothing is found exactly if no place forbids
-  none_nowhere : lowest k (forbids_from task f x y) ≡ none → sought At task k f x y ≡ Nowhere
+  none_nowhere : lowest k (forbids_from task f x y) ≡ none → sought found_at task k f x y ≡ None
   unfolding sought
-  none_nowhere e = ap (found_from At f x y) e
+  none_nowhere e = ap (found_from found_at f x y) e
 
-  nowhere_none : sought At task k f x y ≡ Nowhere → lowest k (forbids_from task f x y) ≡ none
+  nowhere_none : sought found_at task k f x y ≡ None → lowest k (forbids_from task f x y) ≡ none
   unfolding sought
   nowhere_none e = by_lowest (lowest k (forbids_from task f x y)) e
     where
-      by_lowest : (o : Option Bits) → found_from At f x y o ≡ Nowhere → o ≡ none
+      by_lowest : (o : Lowest Bits) → found_from found_at f x y o ≡ None → o ≡ none
       by_lowest none e = refl
-      by_lowest (some l) e = let impossible : ◌≡◌ {A = ℕ} 0 1 = cc in absurd (omega arith)
+      by_lowest (some l) e = cc
 
 -- where the row and the column have as many bits left
 module _ (task : Task) (q : ℕ) (f : Bits → ℕ) where
   -- of the bits before only counts whether they agree
   forbids_by : (x y : ℕ) (l : Bits) → length l ≡ levels q
-      → forbids_from task f x y l ≡ not (eqb (f l) (cond (eqb x y && same (rows l) (columns l)) task.corner task.zero))
+      → forbids_from task f x y l ≡ not (allows task (eqb x y && same (rows l) (columns l)) (f l))
   forbids_by x y l e =
       let h = length_halves q l e in
-      ap (λ (t : Bool). not (eqb (f l) (cond t task.corner task.zero))) (onward_eqb x y (rows l) (columns l) (h.0 ∙ sym h.1))
+      ap (λ (t : Bool). not (allows task t (f l))) (onward_eqb x y (rows l) (columns l) (h.0 ∙ sym h.1))
 
-  pub nowhere_again : (x y x' y' : ℕ) → eqb x y ≡ eqb x' y' → sought At task (levels q) f x y ≡ Nowhere → sought At task (levels q) f x' y' ≡ Nowhere
+  pub nowhere_again : (x y x' y' : ℕ) → eqb x y ≡ eqb x' y' → sought found_at task (levels q) f x y ≡ None → sought found_at task (levels q) f x' y' ≡ None
   nowhere_again x y x' y' agree e =
       none_nowhere task (levels q) f x' y'
       (lowest_ext (levels q) (forbids_from task f x' y') (forbids_from task f x y) alike ∙ nowhere_none task (levels q) f x y e)
     where
       alike : (l : Bits) → length l ≡ levels q → forbids_from task f x' y' l ≡ forbids_from task f x y l
       alike l h = forbids_by x' y' l h
-          ∙ ap (λ (t : Bool). not (eqb (f l) (cond (t && same (rows l) (columns l)) task.corner task.zero))) (sym agree)
+          ∙ ap (λ (t : Bool). not (allows task (t && same (rows l) (columns l)) (f l))) (sym agree)
           ∙ sym (forbids_by x y l h)
 
   -- off the diagonal nothing is found where all is zero
-  pub zero_nowhere : (x y : ℕ) → eqb x y ≡ false → ((l : Bits) → f l ≡ task.zero) → sought At task (levels q) f x y ≡ Nowhere
+  pub zero_nowhere : (x y : ℕ) → eqb x y ≡ false → ((l : Bits) → is_zero task.zero (f l) ≡ true) → sought found_at task (levels q) f x y ≡ None
   zero_nowhere x y apart vanishes = none_nowhere task (levels q) f x y
       (lowest_ext (levels q) (forbids_from task f x y) (λ l. false) never ∙ lowest_never (levels q))
     where
       never : (l : Bits) → length l ≡ levels q → forbids_from task f x y l ≡ false
       never l h = forbids_by x y l h
-          ∙ ap (λ (t : Bool). not (eqb (f l) (cond (t && same (rows l) (columns l)) task.corner task.zero))) apart
-          ∙ ap not (eq-eqb (f l) task.zero (vanishes l))
+          ∙ ap (λ (t : Bool). not (allows task (t && same (rows l) (columns l)) (f l))) apart
+          ∙ ap not (vanishes l)
 
 -- ---- at a place
 
 pub sought_end : (task : Task) (f : Bits → ℕ) (x y : ℕ)
-    → sought At task 0 f x y ≡ cond (eqb (f []) (cond (eqb x y) task.corner task.zero)) Nowhere (At x y (f []))
+    → sought found_at task 0 f x y ≡ cond (allows task (eqb x y) (f [])) None (found_at x y (f []))
 unfolding sought
-sought_end task f x y = by_test (eqb (f []) (cond (eqb x y) task.corner task.zero))
+sought_end task f x y = by_test (allows task (eqb x y) (f []))
   where
-    by_test : (t : Bool) → found_from At f x y (cond (not t) (some []) none) ≡ cond t Nowhere (At x y (f []))
+    by_test : (t : Bool) → found_from found_at f x y (cond (not t) (some []) none) ≡ cond t None (found_at x y (f []))
     by_test true = refl
     by_test false = refl

@@ -1,15 +1,14 @@
 -- The way down from a reference, and references that are used.
 -- Assumes nothing.
-use mathlib.Core.Path.{◌≡◌, refl, ◌∙◌, ap, subst}
+use mathlib.Core.Path.{◌≡◌, refl, ◌∙◌, ap}
 use mathlib.Core.Bool.{Bool, true, false, cond}
 use mathlib.Core.List.{List, [], ◌∷◌}
-use Prim.Native.Nat.{ℕ, suc, ◌/◌, ◌%◌, ◌<◌, ◌≤◌}
+use Prim.Native.Nat.{ℕ, suc, ◌/◌, ◌%◌, ◌<◌}
 use native.Mathlib.Omega.{arith}
 use lib.ListN.{get_or}
 use lib.Dec.{eqb}
 use borrow.Author.Tests.{eqb-true, ne_eqb}
 use Rattle.algebra.specs.Matrix.{Bits}
-use Rattle.uniques.specs.UniqueTable.{full}
 use Rattle.places.specs.declared.Task.{Task}
 use Rattle.cofactors.specs.Slots.{cofactor, landing, InNodes}
 use Rattle.places.specs.Ready.{Used, Sound}
@@ -31,9 +30,9 @@ module _ (level low high : List ℕ) where
   module _ (task : Task) (sound : Sound level low high task) where
     pub nodes_there : {r : ℕ} → Used task.nodes r → InNodes level low high r
     nodes_there used = record {
-      in_level = λ odd. omega (arith, used odd, sound.node_columns);
-      in_low = λ odd. omega (arith, used odd, sound.node_columns);
-      in_high = λ odd. omega (arith, used odd, sound.node_columns);
+      in_level = λ odd. omega (arith, used odd, sound.in_level);
+      in_low = λ odd. omega (arith, used odd, sound.in_low);
+      in_high = λ odd. omega (arith, used odd, sound.in_high);
     }
 
     pub used_down : (asked : ℕ) (b : Bool) (r : ℕ) → Used task.nodes r → Used task.nodes (cofactor level low high asked b r)
@@ -51,9 +50,3 @@ module _ (level low high : List ℕ) where
             → Used task.nodes (cond t (cond (eqb (get_or level (r / 2) 0) asked) (get_or (cond b high low) (r / 2) 0) r) r)
         by_parity true e = by_level (eqb (get_or level (r / 2) 0) asked) (eqb-true (r % 2) 1 e)
         by_parity false e = used
-
--- no column holds the reference that stands for none
-pub full_unused : (nodes r : ℕ) → nodes ≤ 65536 → Used nodes r → r ≡ full → ⊥
-full_unused nodes r few used e =
-    let h : full / 2 < nodes = subst (Used nodes) e used refl in
-    omega arith

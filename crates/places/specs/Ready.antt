@@ -1,9 +1,6 @@
 -- Where the search stands, and what it asks of the columns there. Definitions only.
-use Rattle.std.specs.Prelude.{◌≡◌, true, List, ℕ, suc, ◌+◌, ◌*◌, ◌-◌, ◌/◌, ◌%◌, ◌^◌, ◌<◌, ◌≤◌, get_or}
+use Rattle.std.specs.Prelude.{◌≡◌, true, List, ℕ, suc, ◌+◌, ◌*◌, ◌-◌, ◌/◌, ◌%◌, ◌^◌, ◌<◌, ◌≤◌, length, get_or, Option, Some, None}
 use Rattle.diagrams.specs.Diagram.{levels}
-use Rattle.stores.specs.Columns.{NodeColumns}
-use Rattle.uniques.specs.UniqueTable.{full}
-use Rattle.places.specs.declared.Found.TheVariants.{Nowhere}
 use Rattle.places.specs.declared.Task.{Task}
 use Rattle.places.specs.Search.{child, row_sought}
 
@@ -20,9 +17,11 @@ module _ (level low high : List ℕ) (task : Task) where
   pub record Sound : Type 0 where
     pub few_nodes : task.nodes ≤ 65536
     pub few_levels : task.levels ≤ 32
-    pub node_columns : NodeColumns level low high task.nodes
+    pub in_level : task.nodes ≤ length level
+    pub in_low : task.nodes ≤ length low
+    pub in_high : task.nodes ≤ length high
     pub closed : (i : ℕ) → i < task.nodes → Used task.nodes (get_or low i 0) × Used task.nodes (get_or high i 0)
-    pub zero_value : task.zero % 2 ≡ 1 → task.zero ≡ full
+    pub zero_value : (z : ℕ) → task.zero ≡ Some z → z % 2 ≡ 0
 
   pub record Ready (left r row column : ℕ) : Type 0 where
     pub sound : Sound
@@ -38,9 +37,9 @@ module _ (level low high : List ℕ) (task : Task) where
     pub whole : left ≡ levels qubits_left
 
   -- at the question about a column bit; it is known that nothing is found on the high side if that is `clean`
-  pub record ColumnReady (left r clean row column : ℕ) : Type 0 where
+  pub record ColumnReady (left r : ℕ) (clean : Option ℕ) (row column : ℕ) : Type 0 where
     pub ready : Ready left r row column
     pub qubits_left : ℕ
     pub half : left ≡ suc (levels qubits_left)
     pub known : let high_side = child level low high task left true r in
-        high_side ≡ clean → row_sought level low high task (left - 1) high_side row (2 * column + 1) ≡ Nowhere
+        clean ≡ Some high_side → row_sought level low high task (left - 1) high_side row (2 * column + 1) ≡ None

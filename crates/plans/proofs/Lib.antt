@@ -1,4 +1,3 @@
 pub mod Staging
 pub mod Plans
-pub mod Layouts
 pub mod Levels

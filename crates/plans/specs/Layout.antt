@@ -1,15 +1,18 @@
--- What a step lays out before its walk: the plan's slots, the sizes of its tables, the tables cleared. Definitions only.
-use Rattle.std.specs.Prelude.{◌≡◌, Bool, cond, ◌||◌, List, ℕ, ◌+◌, ◌*◌, ◌<◌, ◌≤◌, max, length, set}
+-- What a step lays out before its walk: its plan, the sizes of its tables, the tables cleared. Definitions only.
+use Rattle.std.specs.Prelude.{◌≡◌, Bool, cond, ◌||◌, Option, ℕ, ◌+◌, ◌*◌, ◌%◌, ◌^◌, ◌<◌, ◌≤◌, max, length}
+use Rattle.std.specs.Int.Count.{ones}
 use Rattle.gates.specs.declared.Rule.{Rule}
 use Rattle.gates.specs.Gate.{Gate, Fits}
 use Rattle.gates.specs.Rule.{gate_rule, target, second}
 use Rattle.stores.specs.Columns.{zeroed}
+use Rattle.transitions.specs.declared.Plan.{Plan}
 use Rattle.transitions.specs.Plan.{plan_of}
-use Rattle.plans.specs.Prepare.{as_number, named_mask, prepared}
+use Rattle.plans.specs.Prepare.{side_of, side_number, side_phases, named_mask, action_of, stage_levels}
 use Rattle.tables.specs.Table.{TableFits, table_end, table_size, cleared}
 use Rattle.plans.specs.declared.Action.{Action}
 use Rattle.plans.specs.declared.Sizes.{Sizes}
 use Rattle.plans.specs.declared.Used.{Used}
+use Rattle.plans.specs.declared.Scratch.{Scratch}
 
 -- ---- the gate
 
@@ -17,7 +20,7 @@ use Rattle.plans.specs.declared.Used.{Used}
 pub record Acts (n : ℕ) (right : Bool) (g : Gate) (action : Action) : Type 0 where
   pub fits : Fits n g
   pub rule : action.rule ≡ gate_rule g
-  pub side : action.side ≡ as_number right
+  pub side : action.side ≡ side_of right
   pub named : action.named ≡ named_mask g
   pub small_named : action.named < 65536
   pub low : action.low ≡ target g
@@ -33,26 +36,34 @@ pairs rule = rule.mixes || rule.swaps
 abbrev pub paired : Bool → ℕ → ℕ
 paired pairs nodes = cond pairs (4 * nodes) nodes
 
--- the slots past the gate's: the source's zero, the heads of the unique tables and the slots of the computed table, the width, the
--- levels, the numbers that a reference lies below, and the source's counts
-unfoldable pub laid_out : Bool → ℕ → ℕ → Sizes → Used → List ℕ → List ℕ
-laid_out pairs zero_ref levels sizes used l =
-    let l₁ = set (set l 23 zero_ref) 24 (table_size used.nodes 64 sizes.heads) in
-    let l₂ = set (set l₁ 25 (table_size used.values 16 sizes.heads)) 26 (table_size (paired pairs used.nodes) 64 sizes.slots) in
-    let l₃ = set (set (set l₂ 27 sizes.width) 28 levels) 29 (2 * max used.nodes used.values) in
-    set (set l₃ 30 used.nodes) 31 used.values
-
-unfoldable pub planned : Action → ℕ → Sizes → Used → ℕ → List ℕ → List ℕ
-planned action n sizes used zero_ref l =
-    prepared action.rule action.side action.named action.low action.high
-    (laid_out (pairs action.rule) zero_ref (2 * n) sizes used l)
+-- a gate's part of it, by its data, the mask of its qubits and its targets, the lower one first: the stages, and which of them are the
+-- targets', as many as qubits are named below them; then the source's zero, the heads of the unique tables and the slots of the computed
+-- table, the width, the levels, the numbers that a reference lies below, and the source's counts
+unfoldable pub planned : Action → ℕ → Sizes → Used → Option ℕ → Plan
+planned action n sizes used zero = record {
+  stages = stage_levels (side_number action.side) action.named;
+  stage_count = ones action.named;
+  target = ones (action.named % 2 ^ action.low);
+  second = ones (action.named % 2 ^ action.high);
+  flips = action.rule.flips;
+  act = action_of action.rule;
+  phases = side_phases (side_number action.side) action.rule;
+  zero = zero;
+  node_heads = table_size used.nodes 64 sizes.heads;
+  value_heads = table_size used.values 16 sizes.heads;
+  slots = table_size (paired (pairs action.rule) used.nodes) 64 sizes.slots;
+  width = sizes.width;
+  levels = 2 * n;
+  span = 2 * max used.nodes used.values;
+  nodes = used.nodes;
+  values = used.values;
+}
 
 -- what planning asks, so that its numbers fit
 pub record Planning (action : Action) (n : ℕ) (used : Used) : Type 0 where
   pub few_qubits : n ≤ 16
   pub few_nodes : used.nodes ≤ 65536
   pub few_values : used.values ≤ 65536
-  pub a_side : action.side < 2
   pub small_named : action.named < 65536
   pub small_low : action.low < 16
   pub small_high : action.high < 16
@@ -60,15 +71,27 @@ pub record Planning (action : Action) (n : ℕ) (used : Used) : Type 0 where
 -- ---- the tables
 
 -- the scratch has room for the plan's tables, for so many nodes and values
-pub record Roomy (plan : List ℕ) (nodes values : ℕ) (node_index value_index memo : List ℕ) : Type 0 where
+pub record Roomy (plan : Plan) (nodes values : ℕ) (s : Scratch) : Type 0 where
   pub few_nodes : nodes ≤ 65536
   pub few_values : values ≤ 65536
-  pub in_nodes : nodes + (plan_of plan).node_heads ≤ length node_index
-  pub in_values : values + (plan_of plan).value_heads ≤ length value_index
-  pub table : TableFits (plan_of plan) memo
+  pub in_nodes : nodes + (plan_of plan).node_heads ≤ length s.node_index.now
+  pub in_values : values + (plan_of plan).value_heads ≤ length s.value_index.now
+  pub table : TableFits (plan_of plan) s.memo.now
 
 -- with ': after clearing
-pub record Cleared (plan : List ℕ) (nodes values : ℕ) (node_index value_index memo node_index' value_index' memo' : List ℕ) : Type 0 where
-  pub of_nodes : node_index' ≡ zeroed 0 nodes (nodes + (plan_of plan).node_heads) node_index
-  pub of_values : value_index' ≡ zeroed 0 values (values + (plan_of plan).value_heads) value_index
-  pub of_memo : memo' ≡ cleared (table_end (plan_of plan)) memo
+pub record Cleared (plan : Plan) (nodes values : ℕ) (s s' : Scratch) : Type 0 where
+  pub of_nodes : s'.node_index.now ≡ zeroed 0 nodes (nodes + (plan_of plan).node_heads) s.node_index.now
+  pub of_values : s'.value_index.now ≡ zeroed 0 values (values + (plan_of plan).value_heads) s.value_index.now
+  pub of_memo : s'.memo.now ≡ cleared (table_end (plan_of plan)) s.memo.now
+  pub terminals : s'.terminals.now ≡ s.terminals.now
+
+-- the scratch with ' is the one that the other is, as much of it, whatever stands in it now: the references keep their ghost names
+pub record SameScratch (s s' : Scratch) : Type 0 where
+  pub terminals : s'.terminals.ghost_name ≡ s.terminals.ghost_name
+  pub node_index : s'.node_index.ghost_name ≡ s.node_index.ghost_name
+  pub value_index : s'.value_index.ghost_name ≡ s.value_index.ghost_name
+  pub memo : s'.memo.ghost_name ≡ s.memo.ghost_name
+  pub terminals_long : length s'.terminals.now ≡ length s.terminals.now
+  pub nodes_long : length s'.node_index.now ≡ length s.node_index.now
+  pub values_long : length s'.value_index.now ≡ length s.value_index.now
+  pub memo_long : length s'.memo.now ≡ length s.memo.now

@@ -1,7 +1,5 @@
--- The plan of a gate on the right or on the left, written into the plan's slots: one way for every gate, by the mask of the qubits that it
--- names. Definitions only.
-use Rattle.std.specs.Prelude.{◌≡◌, Bool, true, false, cond, List, [], ◌∷◌, ℕ, zero, suc, ◌+◌, ◌*◌, ◌/◌, ◌%◌, ◌^◌, ◌<◌, ◌≤◌, eqb, set}
-use Rattle.std.specs.Int.Count.{ones}
+-- The plan of a gate on the right or on the left: one way for every gate, by the mask of the qubits that it names. Definitions only.
+use Rattle.std.specs.Prelude.{◌≡◌, Bool, true, false, cond, List, [], ◌∷◌, ℕ, zero, suc, ◌+◌, ◌*◌, ◌/◌, ◌%◌, ◌^◌, ◌<◌, ◌≤◌, eqb, replicate}
 use Rattle.std.proofs.lemmas.List.Edits.{sets}
 use Rattle.algebra.specs.Matrix.{Matrix, product}
 use Rattle.gates.specs.declared.Phases.{Phases}
@@ -9,12 +7,24 @@ use Rattle.gates.specs.declared.Rule.{Rule}
 use Rattle.gates.specs.Gate.{Gate, on, pair, toffoli, fredkin, names, matrix}
 use Rattle.gates.specs.Rule.{phases, gate_rule, target, second}
 use Rattle.diagrams.specs.Diagram.{levels}
+use Rattle.transitions.specs.declared.Act.{Act}
+use Rattle.transitions.specs.declared.Act.TheVariants.{Moves, Mixes, Swaps}
 use Rattle.transitions.specs.Plan.{Plan}
+use Rattle.plans.specs.declared.Side.{Side}
+use Rattle.plans.specs.declared.Side.TheVariants.{Left, Right}
 
 -- ---- a gate's data as a plan's
 
 abbrev pub as_number : Bool → ℕ
 as_number b = cond b 1 0
+
+abbrev pub side_of : Bool → Side
+side_of true = Right
+side_of false = Left
+
+abbrev pub side_number : Side → ℕ
+side_number Left = 0
+side_number Right = 1
 
 -- "Level 2q asks for the row bit of qubit q, level 2q + 1 for its column bit": on the right, side 1, a gate works on columns, on the
 -- left, side 0, on rows
@@ -25,9 +35,9 @@ side_level side q = 2 * q + side
 abbrev pub side_phases : ℕ → Rule → Phases
 side_phases side rule = cond rule.mixes (phases 0 4) (cond (eqb side 1) rule.right rule.left)
 
--- what a gate does at its target: 0 moves an entry, 1 mixes two, 2 swaps the targets
-abbrev pub action_number : Rule → ℕ
-action_number rule = cond rule.mixes 1 (cond rule.swaps 2 0)
+-- what a gate does at its target: it moves an entry, or mixes two, or swaps its targets
+abbrev pub action_of : Rule → Act
+action_of rule = cond rule.mixes Mixes (cond rule.swaps Swaps Moves)
 
 -- ---- the qubits that a gate names, as a mask
 
@@ -42,19 +52,9 @@ unfoldable pub levels_from : ℕ → ℕ → ℕ → List ℕ
 levels_from zero level rest = []
 levels_from (suc fuel) level rest = cond (eqb (rest % 2) 1) (level ∷ levels_from fuel (level + 2) (rest / 2)) (levels_from fuel (level + 2) (rest / 2))
 
--- ---- the slots
-
-abbrev pub with_action : Rule → Phases → List ℕ → List ℕ
-with_action rule p l = set (set (set (set l 19 (as_number rule.flips)) 20 (action_number rule)) 21 p.zero) 22 p.one
-
--- the stages, and which of them are the targets': as many as qubits are named below them
-abbrev pub with_stages : ℕ → ℕ → ℕ → ℕ → List ℕ → List ℕ
-with_stages side named low high l =
-    set (set (set (sets l 0 (levels_from 16 side named)) 17 (ones named)) 18 (ones (named % 2 ^ low))) 16 (ones (named % 2 ^ high))
-
--- a gate's plan by its data, the side, the mask of its qubits and its targets, the lower one first
-unfoldable pub prepared : Rule → ℕ → ℕ → ℕ → ℕ → List ℕ → List ℕ
-prepared rule side named low high l = with_stages side named low high (with_action rule (side_phases side rule) l)
+-- in the sixteen slots that a plan has for them
+unfoldable pub stage_levels : ℕ → ℕ → List ℕ
+stage_levels side named = sets (replicate 16 0) 0 (levels_from 16 side named)
 
 -- ---- what the plan is for
 

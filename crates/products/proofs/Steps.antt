@@ -2,55 +2,55 @@
 use mathlib.Core.Path.{◌≡◌, refl, sym, ap, ◌∙◌, subst}
 use mathlib.Core.Bool.{Bool}
 use mathlib.Core.List.{List}
-use Prim.Native.Nat.{ℕ, ◌<◌}
-use native.Mathlib.Decide.{ℕ_discrete}
-use native.Mathlib.Omega.{arith}
+use Prim.Native.Nat.{ℕ}
 use lib.IntN.{ℤ}
-use lib.ListN.{length, get_or}
+use Rattle.std.specs.Prelude.{Some, None}
 use Rattle.algebra.specs.declared.Entry.{Entry}
 use Rattle.algebra.specs.Matrix.{Matrix}
 use Rattle.gates.specs.Gate.{Gate}
 use Rattle.diagrams.specs.Diagram.{code, Store, Diagram, empty, diagram}
 use Rattle.uniques.specs.UniqueTable.{listed}
 use Rattle.miters.specs.Run.{Lent, in_width}
+use Rattle.transitions.specs.declared.Mode.TheVariants.{Waiting}
+use Rattle.transitions.specs.declared.Plan.{Plan as CodePlan}
 use Rattle.transitions.specs.declared.State.{State}
 use Rattle.transitions.specs.Plan.{Plan, plan_of}
 use Rattle.transitions.specs.State.{made, inside}
-use Rattle.transitions.specs.Next.{numbered, start}
+use Rattle.transitions.specs.Next.{on_one, start}
 use Rattle.transitions.specs.Valid.{ValidPlan}
 use Rattle.plans.specs.Prepare.{product_on}
 use Rattle.meanings.proofs.Starts.{plan_valid, start_valid, start_made, start_inside}
 use Rattle.tables.specs.Table.{slot_of}
 use Rattle.tables.proofs.Tables.{recalled_zeros}
+use Rattle.turns.specs.declared.Phase.{Phase}
+use Rattle.turns.specs.declared.Phase.TheVariants.{Building, Full, Outside}
+use Rattle.turns.specs.declared.Work.{Work}
 use Rattle.turns.specs.Progress.{Progress, building, full, out, Walks}
 use Rattle.turns.specs.Progress as progress
-use Rattle.turns.specs.Work.{source_in, Work, node_room, value_room, store_in, progress_of, Filled, Working}
+use Rattle.turns.specs.Work.{source_in, node_room, value_room, store_in, progress_by, progress_of, Working}
 use Rattle.turns.specs.Turn.{Ready, Walked}
-use Rattle.turns.proofs.Ends.{building_is, full_is, out_is}
+use Rattle.turns.proofs.Ends.{building_is}
 use Rattle.products.specs.Step.{Task, lent_by, Fresh, Stepped, built, too_large, too_wide}
 
--- ---- how far the walk has come, by the tally
+-- ---- how far the walk has come, by its phase
 
--- the tally's phase is the progress's
-abbrev Shows : ℕ → Store Entry → Progress → Type 0
-Shows phase t (building u) = (phase ≡ 0) × (t ≡ u)
-Shows phase t full = phase ≡ 1
-Shows phase t out = 1 < phase
+-- the phase is the progress's
+abbrev Shows : Phase → Store Entry → Progress → Type 0
+Shows phase t (building u) = (phase ≡ Building) × (t ≡ u)
+Shows phase t full = phase ≡ Full
+Shows phase t out = phase ≡ Outside
 
-shown : (w : Work) → Shows (get_or w.tally 2 0) (store_in w) (progress_of w)
-shown w = by_phase (ℕ_discrete (get_or w.tally 2 0) 0) (ℕ_discrete (get_or w.tally 2 0) 1)
+shown : (w : Work) → Shows w.phase (store_in w) (progress_of w)
+shown w = by_phase w.phase
   where
-    past : (get_or w.tally 2 0 ≡ 0 → ⊥) → (get_or w.tally 2 0 ≡ 1 → ⊥) → 1 < get_or w.tally 2 0
-    past p q = omega arith
-
-    by_phase : Dec (get_or w.tally 2 0 ≡ 0) → Dec (get_or w.tally 2 0 ≡ 1) → Shows (get_or w.tally 2 0) (store_in w) (progress_of w)
-    by_phase (yes z) _ = rw (building_is w z) (z, refl)
-    by_phase (no p) (yes o) = rw (full_is w o) o
-    by_phase (no p) (no q) = rw (out_is w p q) (past p q)
+    by_phase : (p : Phase) → Shows p (store_in w) (progress_by p (store_in w))
+    by_phase Building = (refl, refl)
+    by_phase Full = refl
+    by_phase Outside = refl
 
 -- ---- the start
 
-module _ (plan : List ℕ) (cols : List (List ℕ)) (vals : List (List ℤ)) (root : ℕ) (task : Task plan cols vals root) where
+module _ (plan : CodePlan) (cols : List (List ℕ)) (vals : List (List ℤ)) (root : ℕ) (task : Task plan cols vals root) where
   abbrev n : ℕ
   n = task.qubits
 
@@ -70,10 +70,10 @@ module _ (plan : List ℕ) (cols : List (List ℕ)) (vals : List (List ℤ)) (ro
   source = source_in plan cols vals
 
   abbrev first : State
-  first = numbered root root 16
+  first = on_one (Waiting 0) root
 
   first_is : first ≡ start (diagram n M).root
-  first_is = ap (λ (r : ℕ). numbered r r 16) task.root_is
+  first_is = ap (on_one (Waiting 0)) task.root_is
 
   valid : ValidPlan P (diagram n M).store
   valid = plan_valid n right g M P task.fits task.planned task.zero
@@ -81,20 +81,18 @@ module _ (plan : List ℕ) (cols : List (List ℕ)) (vals : List (List ℤ)) (ro
   valid_here : ValidPlan P source
   valid_here = rw task.given.source valid
 
-  builds : (w : Work) → Fresh plan w → get_or w.tally 2 0 ≡ 0
-  builds w fresh = rw fresh.tally refl
-
   stores_none : (w : Work) → Fresh plan w → store_in w ≡ empty
   unfolding listed
-  stores_none w fresh = rw fresh.tally refl
+  stores_none w fresh = rw (fresh.no_node, fresh.no_value) refl
 
   begins : (w : Work) → Fresh plan w → Working P source w
   begins w fresh = record {
-    four = ap length fresh.tally;
     table = fresh.table;
-    filled = rw (building_is w (builds w fresh))
-        (subst (λ (t : Store Entry). Filled P w (building t)) (sym (stores_none w fresh)) (fresh.nodes, fresh.values));
-    right = record { right = λ σ place some. absurd (some (recalled_zeros P w.memo σ fresh.table.sizes place fresh.blank)) };
+    filled = rw (building_is w fresh.phase) (fresh.nodes, fresh.values);
+    right = record {
+      right = λ σ place a is.
+          let none : None ≡ Some a = sym (recalled_zeros P w.memo.now σ fresh.table.sizes place fresh.blank) ∙ is in cc;
+    };
   }
 
   -- the walk may begin
@@ -125,18 +123,18 @@ module _ (plan : List ℕ) (cols : List (List ℕ)) (vals : List (List ℤ)) (ro
     made_is : {t : Store Entry} → t ≡ empty → made P source first t ≡ diagram n result
     made_is e = rw (e, first_is, task.given.source) (start_made n right g M P task.fits task.planned valid)
 
-    by_walk : {p p' : Progress} {r : ℕ} → Walks (node_room w) (value_room w) P source first p p' r → Shows 0 empty p
-        → Shows (get_or w'.tally 2 0) (store_in w') p' → Stepped lent n result w' r
+    by_walk : {p p' : Progress} {r : ℕ} → Walks (node_room w) (value_room w) P source first p p' r → Shows Building empty p
+        → Shows w'.phase (store_in w') p' → Stepped lent n result w' r
     by_walk (progress.built within room below) (_, none) (phase, store) =
         let same = made_is (sym none) in
         subst (λ (D : Diagram Entry). Stepped lent n result w' (code D.root)) (sym same)
         (built (sym inside_is ∙ within) (rw (← same) room) phase (store ∙ ap (λ (D : Diagram Entry). D.store) same))
     by_walk (progress.filled within room some) (_, none) phase = too_large (sym inside_is ∙ within) (rw (← made_is (sym none)) room) phase
     by_walk (progress.left outside) (_, none) phase = too_wide (sym inside_is ∙ outside) phase
-    by_walk (progress.still_full within some) never phase = absurd (omega (arith, never))
-    by_walk (progress.left_full outside) never phase = absurd (omega (arith, never))
-    by_walk progress.gone never phase = elim never [ ]
+    by_walk (progress.still_full within some) never phase = cc
+    by_walk (progress.left_full outside) never phase = cc
+    by_walk progress.gone never phase = cc
 
     -- what the walk leaves is the product's diagram, or it is refused
     pub steps : {r : ℕ} → Walked plan cols vals w first r w' → Stepped lent n result w' r
-    steps walked = by_walk walked.walks (rw (building_is w (builds w fresh)) (refl, sym (stores_none w fresh))) (shown w')
+    steps walked = by_walk walked.walks (rw (building_is w fresh.phase) (refl, sym (stores_none w fresh))) (shown w')

@@ -1,5 +1,5 @@
 -- Decimal numbers: the digits of a number are bytes of digits, read back they are the number, the first is not 0 unless it is
--- alone, and there are no more of them than the number needs. Assumes nothing.
+-- alone, there are no more of them than the number needs, and they are what the library prints. Assumes nothing.
 use mathlib.Core.Path.{◌≡◌, refl, sym, ap, ◌∙◌}
 use mathlib.Core.Bool.{Bool, cond}
 use mathlib.Core.List.{List, [], ◌∷◌, ◌++◌}
@@ -8,6 +8,8 @@ use native.Mathlib.Decide.{dec_lt}
 use native.Mathlib.Omega.{arith}
 use borrow.Author.Tests.{lt-ltb, le-ltb}
 use lib.ListN.{length, get_or, length-append}
+use Rattle.std.specs.Fmt.{decimal}
+use Rattle.std.proofs.lemmas.Fmt.{decimal_digit, decimal_step}
 use Rattle.reports.specs.Line.{digit, digits_in, digits}
 
 -- ---- a number below ten, and a number from ten on
@@ -127,3 +129,10 @@ length_digits_32 n h = length_digits n 9 (omega arith)
 
 pub length_digits_64 : (n : ℕ) → n < 2 ^ 64 → length (digits n) ≤ 20
 length_digits_64 n h = length_digits n 19 (omega arith)
+
+-- ---- they are what the library prints
+
+pub digits_printed : (n : ℕ) → n < 2 ^ 64 → digits n ≡ decimal n
+digits_printed =
+    digits_induction (λ n s. n < 2 ^ 64 → s ≡ decimal n) (λ n h below. sym (decimal_digit n h))
+    (λ n front h p below. ap (λ (s : List ℕ). s ++ (digit (n % 10) ∷ [])) (p (omega arith)) ∙ sym (decimal_step n h below))

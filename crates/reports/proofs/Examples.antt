@@ -8,6 +8,9 @@ use lib.IntN.{ℤ, pos, negsuc}
 use lib.ListN.{length}
 use Rattle.algebra.specs.declared.Entry.{Entry}
 use Rattle.algebra.specs.Entry.{entry}
+use Rattle.circuits.specs.Refusals.{ends_early}
+use Rattle.miters.specs.declared.CallFault.TheVariants.{QubitCounts}
+use Rattle.miters.specs.declared.StepFault.TheVariants.{OutsideWidth}
 use Rattle.miters.specs.declared.Refusal.TheVariants.{Call, Byte, Step}
 use Rattle.miters.specs.declared.Verdict.{Verdict}
 use Rattle.miters.specs.declared.Verdict.TheVariants.{Equal, Different}
@@ -27,9 +30,9 @@ small v steps = record { verdict = v; exponent = 0; steps = steps; nodes = 3; va
 
 abbrev pub reports : List Report
 reports =
-    refused (Byte 3 0 0)
-    ∷ refused (Step 13 61)
-    ∷ refused (Call 11)
+    refused (Byte 0 (record { fault = ends_early; offset = 0 }))
+    ∷ refused (Step OutsideWidth 61)
+    ∷ refused (Call QubitCounts)
     ∷ small (Equal one_entry) 0
     ∷ small (Different (record { row = 0; column = 1; entry = one_entry; corner = zero_entry })) 1
     ∷ small (Equal (entry (pos 0) (pos 0) (pos 0) (negsuc 0))) 4

@@ -1,29 +1,45 @@
--- Texts written into a buffer: one after another is the two joined; what is written from the front on; byte by byte.
+-- Texts written into a line: words copied to its end; one text after another is the two joined; what is written from the front on.
 -- Assumes nothing.
-use mathlib.Core.Path.{◌≡◌, refl, sym, ap, ap₂, ◌∙◌, ◌≡⟨◌⟩◌, ◌∎}
+use mathlib.Core.Path.{◌≡◌, refl, sym, ap, ◌∙◌}
 use mathlib.Core.List.{List, [], ◌∷◌, ◌++◌}
-use Prim.Native.Nat.{ℕ, suc, ◌+◌, ◌≤◌, ◌<◌}
-use native.Mathlib.Nat.{zero-add, le_trans}
-use native.Mathlib.Numerals.{add-one}
+use Prim.Native.Nat.{ℕ, suc, ◌+◌, ◌≤◌}
+use native.Mathlib.Nat.{add-zero, zero-add, le_trans, le_refl}
 use native.Mathlib.Omega.{arith}
-use lib.ListN.{length, get_or, take, drop, set, length-append}
-use lib.Seq.{sets, take-suc, take_all, length-take-le}
-use Rattle.encodings.proofs.Puts.{sets_append, put_then as Wrote_then, sets_over}
+use lib.ListN.{length, take, drop, set, length-append}
+use lib.Seq.{sets, sets-eq, take_all}
+use Rattle.std.proofs.lemmas.Slice.{put_mid-paste}
+use borrow.Rule.Slice.PartMut.{put_mid}
+use Rattle.encodings.specs.Writing.{Put as Wrote}
+use Rattle.encodings.proofs.Puts.{put_then as Wrote_then, sets_over}
+use Rattle.reports.specs.declared.Line.{Line}
 use Rattle.reports.specs.Line.{over_front}
 use Rattle.reports.specs.Writing.{Put}
 
+-- ---- words copied to a place
+
+pub copied : (words before now : List ℕ) (at k : ℕ) → at + length words ≤ length before → now ≡ words → k ≡ length words →
+    put_mid at k before now ≡ sets before at words
+copied words before now at k room is all =
+    put_mid-paste at k before now words (length words) is (sym all) refl
+    ∙ ap (λ (l : List ℕ). take at before ++ l ++ drop (at + length words) before) (take_all (length words) words (le_refl (length words)))
+    ∙ sym (sets-eq words before at room)
+
 -- ---- one text after another
 
-pub put_then : {s t before between after : List ℕ} {m n at next last : ℕ} →
-    Put s m at before between next → Put t n next between after last → Put (s ++ t) (m + n) at before after last
+pub put_then : {s t : List ℕ} {a b c : Line} {m n : ℕ} → Put s m a b → Put t n b c → Put (s ++ t) (m + n) a c
 put_then {s} {t} p q = record {
   wrote = Wrote_then p.wrote q.wrote;
   short = rw length-append (omega (arith, p.short, q.short));
+  same = q.same ∙ p.same;
 }
 
+-- no text at all
+pub put_none : {a : Line} → Put [] 0 a a
+put_none = record { wrote = record { place = sym (add-zero _); stored = refl }; short = le_refl 0; same = refl }
+
 -- a greater limit
-pub put_within : {text before after : List ℕ} {m n at next : ℕ} → m ≤ n → Put text m at before after next → Put text n at before after next
-put_within h p = record { wrote = p.wrote; short = le_trans p.short h }
+pub put_within : {text : List ℕ} {a b : Line} {m n : ℕ} → m ≤ n → Put text m a b → Put text n a b
+put_within h p = record { wrote = p.wrote; short = le_trans p.short h; same = p.same }
 
 -- ---- a text at the front
 
@@ -41,11 +57,9 @@ sets_front [] l = refl
 sets_front (x ∷ text) [] = sets_none 1 text
 sets_front (x ∷ text) (y ∷ l) = sets_behind x l 0 text ∙ ap (λ (r : List ℕ). x ∷ r) (sets_front text l)
 
-pub put_first : {text before after : List ℕ} {n next : ℕ} → Put text n 0 before after next →
-    (next ≡ length text) × ((next ≤ n) × (after ≡ over_front text before))
-put_first {text} {before} p =
-    let w = p.wrote in
-    (w.place ∙ zero-add (length text), (omega (arith, w.place, p.short), w.stored ∙ sets_front text before))
+pub put_first : {text before after : List ℕ} {next : ℕ} → Wrote text 0 before after next →
+    (next ≡ length text) × (after ≡ over_front text before)
+put_first {text} {before} p = (p.place ∙ zero-add (length text), p.stored ∙ sets_front text before)
 
 pub length_over_front : (text buffer : List ℕ) → length (over_front text buffer) ≡ length buffer
 unfolding over_front
@@ -60,23 +74,3 @@ still_within text before is within = omega (arith, ap length is, length_over_fro
 -- a buffer that has room holds the text, and then what it held
 pub over_front_is : (text buffer : List ℕ) → length text ≤ length buffer → over_front text buffer ≡ text ++ drop (length text) buffer
 over_front_is text buffer h = sym (sets_front text buffer) ∙ sets_over text buffer h
-
--- ---- a text written byte by byte
-
--- the first i bytes of a text are written
-module _ (words before : List ℕ) (at i : ℕ) {now : List ℕ} (written : now ≡ sets before at (take i words)) where
-  pub put_more : i < length words → set now (at + i) (get_or words i 0) ≡ sets before at (take (i + 1) words)
-  put_more more =
-      set now (at + i) (get_or words i 0)
-      ≡⟨ ap₂ (λ (l : List ℕ) (k : ℕ). set l (at + k) (get_or words i 0)) written (sym (length-take-le i words (omega arith))) ⟩
-      sets (sets before at (take i words)) (at + length (take i words)) (get_or words i 0 ∷ [])
-      ≡⟨ sym (sets_append before at (take i words) (get_or words i 0 ∷ [])) ⟩
-      sets before at (take i words ++ (get_or words i 0 ∷ []))
-      ≡⟨ ap (sets before at) (sym (ap (λ (k : ℕ). take k words) (add-one i) ∙ take-suc words i 0 more)) ⟩
-      sets before at (take (i + 1) words) ∎
-
-  pub put_all : i ≡ length words → Put words (length words) at before now (at + i)
-  put_all all = record {
-    wrote = record { place = ap (λ (k : ℕ). at + k) all; stored = written ∙ ap (sets before at) (take_all i words (omega arith)) };
-    short = omega arith;
-  }

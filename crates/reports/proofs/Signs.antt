@@ -1,51 +1,34 @@
--- Whole numbers by their sign: the text of one says that number, and what the code's locals hold of one. Assumes nothing.
+-- Whole numbers by their sign: the text of one is what the library prints, and says that number. Assumes nothing.
 use mathlib.Core.Path.{◌≡◌, refl, sym, ap, ◌∙◌}
-use mathlib.Core.Bool.{Bool, true, false, cond, true≢false}
+use mathlib.Core.Bool.{Bool, cond}
 use mathlib.Core.List.{List, [], ◌∷◌, ◌++◌}
-use Prim.Native.Nat.{ℕ, suc, ◌^◌, ◌≤◌, ◌<◌}
+use Prim.Native.Nat.{ℕ, suc, ◌^◌, ◌<◌}
 use native.Mathlib.Omega.{arith}
-use borrow.Author.Tests.{ltb-true, ne_eqb}
-use lib.Dec.{T, eqb, lit<}
-use lib.IntN.{ℤ, pos, negsuc, neg_ℤ, nat_abs, ◌-ℤ◌, +ℤ_idl}
-use lib.ListN.{length}
-use lib.Signed.{mag, lt_z, non_neg}
+use borrow.Author.Tests.{ne_eqb}
+use lib.Dec.{eqb}
+use lib.IntN.{ℤ, pos, negsuc, neg_ℤ}
+use lib.Signed.{mag}
 use mir.Facts.{to_z-of_z}
-use mir.Syntax.{w32, w64}
-use mir.Val.{Fits, SFits, to_z, of_z}
+use mir.Syntax.{w32}
+use mir.Val.{SFits, to_z, of_z}
+use Rattle.std.specs.Fmt.{signed_decimal}
 use Rattle.algebra.specs.declared.Entry.{Entry}
-use Rattle.algebra.proofs.Widths.{as64, op_fits, op_is, sub_widening}
-use Rattle.reports.specs.Line.{bytes, digits, whole, numbers}
-use Rattle.reports.proofs.Decimals.{Decimal, none, more, digits_decimal, value, value_digits, length_digits_32}
+use Rattle.reports.specs.Line.{bytes, whole, numbers}
+use Rattle.reports.proofs.Decimals.{Decimal, none, more, digits_decimal, value, value_digits, digits_printed}
 
 -- an `i32` as a local holds it
 abbrev held : ℤ → ℤ
 held z = to_z w32 (of_z w32 z)
 
--- ---- the magnitude
-
-nat_abs_bound : (z : ℤ) → mag z < 2 ^ 31 → nat_abs z < 2 ^ 32
-nat_abs_bound (pos n) h = omega arith
-nat_abs_bound (negsuc n) h = omega arith
-
-opposite : (z : ℤ) → lt_z z (pos 0) ≡ true → pos 0 -ℤ z ≡ pos (nat_abs z)
-opposite (pos n) below = absurd (omega (arith, ltb-true n 0 below))
-opposite (negsuc n) below = +ℤ_idl (pos (suc n))
-
-itself : (z : ℤ) → lt_z z (pos 0) ≡ false → z ≡ pos (nat_abs z)
-itself (pos n) above = refl
-itself (negsuc n) above = absurd (true≢false above)
-
 -- ---- the text
 
-whole_below : (z : ℤ) → lt_z z (pos 0) ≡ true → whole z ≡ bytes "-" ++ digits (nat_abs z)
+printed : (z : ℤ) → mag z < 2 ^ 31 → whole z ≡ signed_decimal z
 unfolding whole
-whole_below (pos n) below = absurd (omega (arith, ltb-true n 0 below))
-whole_below (negsuc n) below = refl
+printed (pos n) h = digits_printed n (omega arith)
+printed (negsuc n) h = ap (λ (s : List ℕ). bytes "-" ++ s) (digits_printed (suc n) (omega arith))
 
-whole_above : (z : ℤ) → lt_z z (pos 0) ≡ false → whole z ≡ digits (nat_abs z)
-unfolding whole
-whole_above (pos n) above = refl
-whole_above (negsuc n) above = absurd (true≢false above)
+pub whole_printed : {z : ℤ} → SFits w32 z → whole z ≡ signed_decimal (held z)
+whole_printed {z} fits = printed z fits.sfits ∙ ap signed_decimal (sym (to_z-of_z fits))
 
 -- ---- the number that a text says
 
@@ -61,39 +44,6 @@ pub whole_value_is : (z : ℤ) → whole_value (whole z) ≡ z
 unfolding whole
 whole_value_is (pos n) = unsigned (digits_decimal n) ∙ ap pos (value_digits n)
 whole_value_is (negsuc n) = ap (λ (m : ℕ). neg_ℤ (pos m)) (value_digits (suc n))
-
--- ---- a local's
-
-module _ {z : ℤ} (fits : SFits w32 z) where
-  zero_fits : SFits w32 (pos 0)
-  zero_fits = record { sfits = lit< tt }
-
-  test_is : {b : Bool} → lt_z (held z) (pos 0) ≡ b → lt_z z (pos 0) ≡ b
-  test_is said = sym (ap (λ (v : ℤ). lt_z v (pos 0)) (to_z-of_z fits)) ∙ said
-
-  -- the cast of a number that is the magnitude
-  pub magnitude_cast : {v : ℤ} → v ≡ pos (nat_abs z) → T (non_neg v) × Fits w64 (nat_abs v)
-  magnitude_cast is = rw is (tt, record { fits = omega (arith, nat_abs_bound z fits.sfits) })
-
-  pub magnitude_short : {m : ℕ} → m ≡ nat_abs (held z) → length (digits m) ≤ 10
-  magnitude_short {m} is = length_digits_32 m (rw (is ∙ ap nat_abs (to_z-of_z fits)) (nat_abs_bound z fits.sfits))
-
-  pub opposite_fits : SFits w64 (pos 0 -ℤ as64 z)
-  opposite_fits = op_fits ◌-ℤ◌ sub_widening zero_fits fits
-
-  module _ (below : lt_z (held z) (pos 0) ≡ true) where
-    pub opposite_is : to_z w64 (of_z w64 (pos 0 -ℤ as64 z)) ≡ pos (nat_abs z)
-    opposite_is = op_is ◌-ℤ◌ sub_widening zero_fits fits ∙ opposite z (test_is below)
-
-    pub text_below : {m : ℕ} → m ≡ nat_abs (held z) → whole z ≡ bytes "-" ++ digits m
-    text_below is = whole_below z (test_is below) ∙ ap (λ (m : ℕ). bytes "-" ++ digits m) (sym (is ∙ ap nat_abs (to_z-of_z fits)))
-
-  module _ (above : lt_z (held z) (pos 0) ≡ false) where
-    pub itself_is : held z ≡ pos (nat_abs z)
-    itself_is = to_z-of_z fits ∙ itself z (test_is above)
-
-    pub text_above : {m : ℕ} → m ≡ nat_abs (held z) → whole z ≡ digits m
-    text_above is = whole_above z (test_is above) ∙ ap digits (sym (is ∙ ap nat_abs (to_z-of_z fits)))
 
 -- ---- an entry's
 

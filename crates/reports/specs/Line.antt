@@ -10,6 +10,7 @@ use Rattle.miters.specs.declared.Refusal.TheVariants.{Call, Byte, Step}
 use Rattle.miters.specs.declared.Verdict.{Verdict}
 use Rattle.miters.specs.declared.Verdict.TheVariants.{Equal, Different, Refused}
 use Rattle.miters.specs.declared.Report.{Report}
+use Rattle.miters.specs.Report.{number_of}
 
 -- ---- text and numbers
 
@@ -58,11 +59,15 @@ named_entry words x = bytes words ++ numbers x
 unfoldable pub place : ℕ → ℕ → List ℕ
 place list offset = named " list " list ++ named " byte " offset
 
+-- what is returned beside the number
+abbrev pub beside : Refusal → List ℕ
+beside (Call fault) = []
+beside (Byte list why) = place list why.offset
+beside (Step fault steps) = named " steps " steps
+
 -- "`refused 3 list 0 byte 0`, or `refused 13 steps 61`, or `refused 11`"
 unfoldable pub refusal : Refusal → List ℕ
-refusal (Call number) = named "refused " number
-refusal (Byte number list offset) = named "refused " number ++ place list offset
-refusal (Step number steps) = named "refused " number ++ named " steps " steps
+refusal why = named "refused " (number_of why) ++ beside why
 
 -- the part that a finished run adds: "exponent 0 steps 0 nodes 3 values 2"
 unfoldable pub counts : Report → List ℕ

@@ -1,14 +1,18 @@
 -- The loop's invariant, for every run that the lists and the stores may stand for; and the whole run, with the identity before it.
 -- Assumes nothing.
-use mathlib.Core.Path.{◌≡◌, refl, sym, ◌∙◌, ap, subst}
-use mathlib.Core.Bool.{cond}
+use mathlib.Core.Path.{◌≡◌, refl, sym, ◌∙◌, ap, subst, subst₂}
 use mathlib.Core.List.{List}
 use Prim.Native.Nat.{ℕ, suc, ◌+◌, ◌-◌, ◌*◌, ◌<◌, ◌≤◌}
 use native.Mathlib.Omega.{arith}
-use lib.Dec.{eqb}
 use lib.ListN.{length, get_or}
 use Rattle.diagrams.specs.Diagram.{diagram}
-use Rattle.stores.specs.Columns.{Columns, Holds}
+use Rattle.stores.specs.Columns.{Columns, columns_of, Holds, SameColumns}
+use Rattle.stores.specs.declared.Store.{Store as LentStore}
+use Rattle.stores.proofs.Columns.{same_none, same_then}
+use Rattle.circuits.specs.Remaining.{Remaining}
+use Rattle.std.specs.Prelude.{Result, Ok, Err}
+use Rattle.miters.specs.declared.StepFault.{StepFault}
+use Rattle.miters.specs.declared.StepFault.TheVariants.{NoRoom}
 use Rattle.miters.specs.declared.Refusal.{Refusal}
 use Rattle.miters.specs.declared.Refusal.TheVariants.{Step as at_step}
 use Rattle.miters.specs.Miter.{start, Step, steps}
@@ -18,22 +22,25 @@ use Rattle.plans.specs.declared.Sizes.{Sizes}
 use Rattle.steps.specs.Stepping.{lent_with}
 use Rattle.steps.specs.Stepping as stepping
 use Rattle.choices.specs.declared.Offsets.{Offsets}
-use Rattle.choices.specs.declared.Next.{Next}
-use Rattle.runs.specs.declared.End.{End}
-use Rattle.runs.specs.declared.End.TheVariants.{Done, Stopped}
+use Rattle.plans.specs.declared.Action.{Action}
+use Rattle.plans.specs.declared.Used.{Used}
+use Rattle.plans.specs.declared.Scratch.{Scratch as LentScratch}
+use Rattle.plans.specs.Layout.{SameScratch}
+use Rattle.choices.specs.declared.Lists.{Lists as Readers}
+use Rattle.runs.specs.declared.Finish.{Finish}
 use Rattle.runs.specs.Running.{Task, Ran}
 use Rattle.choices.specs.Choosing.{Chosen}
-use Rattle.runs.specs.Inside.{current, used_in, Room, Begun, Started, Followed}
-use Rattle.runs.proofs.Stores.{Kept, kept_all, kept_then, long_kept, Tables, TablesKept, tables_kept_all, tables_kept_then, scratch_kept}
+use Rattle.runs.specs.Inside.{current, Room, Begun, Started, Followed}
+use Rattle.runs.proofs.Stores.{long_same, scratch_none, scratch_then, scratch_same}
 use Rattle.runs.proofs.Stores.{current_next, current_long, start_source, no_nodes, no_values, room_followed}
 use Rattle.runs.proofs.Reached.{fits_fitting, fitting_length, reached_start}
 use Rattle.runs.proofs.Turns.{Running, ran_stopped, turn_task, turn_runs, turn_stops, run_ends}
 
 -- ---- the loop
 
-module _ (u v schedule : List ℕ) (n : ℕ) (offsets₀ : Offsets) (sizes : Sizes) (first₀ second₀ : Columns) (T₀ : Tables) where
+module _ (u v schedule : List ℕ) (n : ℕ) (offsets₀ : Offsets) (sizes : Sizes) (first₀ second₀ : LentStore) (T₀ : LentScratch) where
   abbrev pub Starts : Type 0
-  Starts = Started u v schedule n offsets₀ sizes first₀ second₀ T₀.terminals T₀.node_index T₀.value_index T₀.memo
+  Starts = Started u v schedule n offsets₀ sizes (columns_of first₀) (columns_of second₀) T₀
 
   abbrev pub lent_of : Starts → Lent
   lent_of s = lent_with sizes s.task.N s.task.L
@@ -46,85 +53,105 @@ module _ (u v schedule : List ℕ) (n : ℕ) (offsets₀ : Offsets) (sizes : Siz
       let long = fitting_length schedule s.task.us s.task.vs (fits_fitting s.task.us s.task.vs schedule s.task.fitting) in
       omega (arith, long, s.task.within_u.few_gates, s.task.within_v.few_gates)
 
-  -- the invariant: the lengths are kept, and for every run that it may be, i steps of it are taken
-  pub record Turning (offsets : Offsets) (exponent i : ℕ) (tally : List ℕ) (first second : Columns) (T : Tables) : Type 0 where
-    pub first_kept : Kept first₀ first
-    pub second_kept : Kept second₀ second
-    pub tables_kept : TablesKept T₀ T
-    pub runs : (s : Starts) → Running (lent_of s) n u v schedule (whole_of s) offsets exponent i (used_in tally) (current (length schedule - i) first second)
+  -- the invariant: the stores and the scratch are the same, and for every run that it may be, i steps of it are taken
+  pub record Turning (readers : Readers) (exponent i : ℕ) (used : Used) (first second : LentStore) (T : LentScratch) : Type 0 where
+    pub same_first : SameColumns first₀ first
+    pub same_second : SameColumns second₀ second
+    pub same_scratch : SameScratch T₀ T
+    pub runs : (s : Starts)
+        → Running (lent_of s) n schedule (whole_of s) readers exponent i used (current (length schedule - i) (columns_of first) (columns_of second))
 
-  started : (s : Starts) (tally : List ℕ) → get_or tally 0 0 ≡ 3 * n → get_or tally 1 0 ≡ 2
-      → Running (lent_of s) n u v schedule (whole_of s) offsets₀ 0 0 (used_in tally) (current (length schedule - 0) first₀ second₀)
-  unfolding start
-  started s tally nodes values =
-      let task = s.task in
-      let same : length schedule ≡ length schedule - 0 = omega arith in
-      record {
-        us = task.us;
-        vs = task.vs;
-        M = start;
-        within = omega arith;
-        lists = record { gates_u = task.gates_u; gates_v = task.gates_v; fit_u = task.within_u.all_fit; fit_v = task.within_v.all_fit };
-        fitting = fits_fitting task.us task.vs schedule task.fitting;
-        reached = reached_start n;
-        ends = refl;
-        power = refl;
-        few = omega arith;
-        holds = record {
-          holds = subst (λ (k : ℕ). Holds task.N task.L (diagram n start.entries).store (current k first₀ second₀)) same s.identity.holds;
-          nodes = nodes ∙ s.identity.nodes;
-          values = values ∙ s.identity.values;
-          root = s.identity.root;
-        };
-      }
+  -- at the first gates, in the identity
+  module _ (readers : Readers) (bytes_u : readers.first.bytes.now ≡ u) (bytes_v : readers.second.bytes.now ≡ v)
+      (at_u : readers.first.at ≡ offsets₀.first) (at_v : readers.second.at ≡ offsets₀.second) where
+    abbrev at_start : Used
+    at_start = record { nodes = 3 * n; values = 2 }
 
-  pub turning_starts : (tally : List ℕ) → get_or tally 0 0 ≡ 3 * n → get_or tally 1 0 ≡ 2 → Turning offsets₀ 0 0 tally first₀ second₀ T₀
-  turning_starts tally nodes values = record {
-    first_kept = kept_all;
-    second_kept = kept_all;
-    tables_kept = tables_kept_all;
-    runs = λ s. started s tally nodes values;
-  }
+    started : (s : Starts)
+        → Running (lent_of s) n schedule (whole_of s) readers 0 0 at_start (current (length schedule - 0) (columns_of first₀) (columns_of second₀))
+    unfolding start
+    started s =
+        let task = s.task in
+        let same : length schedule ≡ length schedule - 0 = omega arith in
+        record {
+          us = task.us;
+          vs = task.vs;
+          M = start;
+          within = omega arith;
+          lists = record {
+            gates_u = subst₂ (λ (l : List ℕ) (k : ℕ). Remaining n l k task.us) (sym bytes_u) (sym at_u) task.gates_u;
+            gates_v = subst₂ (λ (l : List ℕ) (k : ℕ). Remaining n l k task.vs) (sym bytes_v) (sym at_v) task.gates_v;
+            fit_u = task.within_u.all_fit;
+            fit_v = task.within_v.all_fit;
+          };
+          fitting = fits_fitting task.us task.vs schedule task.fitting;
+          reached = reached_start n;
+          ends = refl;
+          power = refl;
+          few = omega arith;
+          holds = record {
+            holds = subst (λ (k : ℕ). Holds task.N task.L (diagram n start.entries).store (current k (columns_of first₀) (columns_of second₀)))
+                same s.identity.holds;
+            nodes = s.identity.nodes;
+            values = s.identity.values;
+            root = s.identity.root;
+          };
+        }
 
-  module _ {offsets : Offsets} {exponent i : ℕ} {tally : List ℕ} {first second : Columns} {T : Tables}
-      (t : Turning offsets exponent i tally first second T) where
-    pub turning_ends : length schedule ≤ i → (s : Starts) → Ran (lent_of s) n first (whole_of s) (Done i exponent (used_in tally))
-    turning_ends end s = run_ends first second (t.runs s) end
+    pub turning_starts : Turning readers 0 0 at_start first₀ second₀ T₀
+    turning_starts = record { same_first = same_none first₀; same_second = same_none second₀; same_scratch = scratch_none T₀; runs = started }
 
-    module _ (more : i < length schedule) (next : Next) (chosen : Chosen u v (get_or schedule i 0) offsets n next) where
-      abbrev pub step_task : (s : Starts) → stepping.Task next.action n sizes (used_in tally)
-          (current (length schedule - i) first second) (current (length schedule - i) second first) T.terminals T.node_index T.value_index T.memo
-      step_task s = turn_task (t.runs s) more s.task.within_u.few_qubits next chosen s.task.width
-          (current_long (length schedule - i) (long_kept s.task.second_long t.second_kept) (long_kept s.task.first_long t.first_kept))
-          (scratch_kept {T = T₀} {T' = T} s.task.scratch t.tables_kept)
+  module _ {readers : Readers} {exponent i : ℕ} {used : Used} {first second : LentStore} {T : LentScratch}
+      (t : Turning readers exponent i used first second T) where
+    pub turning_ends : length schedule ≤ i → (s : Starts)
+        → Ran (lent_of s) n (columns_of first) (whole_of s) (Ok (record { steps = length schedule; exponent = exponent; used = used }))
+    turning_ends end s = run_ends (columns_of first) (columns_of second) (t.runs s) end
 
-      module _ {tally' : List ℕ} (first' second' : Columns) (left : stepping.Left next.action n sizes (used_in tally)
-          (current (length schedule - i) first second) (current (length schedule - i) second first) T.terminals T.node_index T.value_index T.memo
-          (current (length schedule - i) second' first') tally') where
-        pub turning_stops : {why : Refusal} → (get_or tally' 2 0 ≡ 0 → ⊥) → why ≡ at_step (cond (eqb (get_or tally' 2 0) 1) 14 13) i
-            → (s : Starts) → Ran (lent_of s) n first' (whole_of s) (Stopped why)
-        turning_stops some is s = turn_stops (t.runs s) more s.task.within_u.few_qubits next chosen (left (step_task s)) first' some is
+    module _ (more : i < length schedule) {readers' : Readers} {action : Action}
+        (chosen : Chosen readers readers' (get_or schedule i 0) n action) where
+      -- where the diagram is, and where the step's product goes
+      abbrev from : Columns
+      from = current (length schedule - i) (columns_of first) (columns_of second)
 
-        next_current : current (length schedule - i) second' first' ≡ current (length schedule - (i + 1)) first' second'
+      abbrev into : Columns
+      into = current (length schedule - i) (columns_of second) (columns_of first)
+
+      abbrev pub step_task : (s : Starts) → stepping.Task action n sizes used from into T
+      step_task s = turn_task (t.runs s) more s.task.within_u.few_qubits chosen s.task.width
+          (current_long (length schedule - i) (long_same {s = second₀} {s' = second} s.task.second_long t.same_second)
+          (long_same {s = first₀} {s' = first} s.task.first_long t.same_first))
+          (scratch_same s.task.scratch t.same_scratch)
+
+      module _ {answer : Result Used StepFault} (first' second' : LentStore) (left : stepping.Left action n sizes used from into T
+          (current (length schedule - i) (columns_of second') (columns_of first')) answer) where
+        pub turning_stops : {fault : StepFault} → answer ≡ Err fault
+            → (s : Starts) → Ran (lent_of s) n (columns_of first') (whole_of s) (Err (at_step fault i))
+        turning_stops stops s =
+            turn_stops (t.runs s) more s.task.within_u.few_qubits chosen (left (step_task s)) (columns_of first') stops
+
+        next_current : current (length schedule - i) (columns_of second') (columns_of first')
+            ≡ current (length schedule - (i + 1)) (columns_of first') (columns_of second')
         next_current =
             let one_less : suc (length schedule - (i + 1)) ≡ length schedule - i = omega arith in
-            sym (current_next (length schedule - (i + 1)) first' second' ∙ ap (λ (k : ℕ). current k second' first') one_less)
+            sym (current_next (length schedule - (i + 1)) (columns_of first') (columns_of second')
+            ∙ ap (λ (k : ℕ). current k (columns_of second') (columns_of first')) one_less)
 
-        pub turning_on : {T' : Tables} (h : ℕ) → get_or tally' 2 0 ≡ 0 → h ≡ as_number next.action.rule.mixes
-            → Kept first first' → Kept second second' → TablesKept T T' → Turning next.offsets (exponent + h) (i + 1) tally' first' second' T'
-        turning_on h none h_is first_kept second_kept tables_kept = record {
-          first_kept = kept_then t.first_kept first_kept;
-          second_kept = kept_then t.second_kept second_kept;
-          tables_kept = tables_kept_then t.tables_kept tables_kept;
-          runs = λ s. subst (λ (C : Columns). Running (lent_of s) n u v schedule (whole_of s) next.offsets (exponent + h) (i + 1) (used_in tally') C)
+        pub turning_on : {used' : Used} {T' : LentScratch} (h : ℕ) → answer ≡ Ok used' → h ≡ as_number action.rule.mixes
+            → SameColumns first first' → SameColumns second second' → SameScratch T T'
+            → Turning readers' (exponent + h) (i + 1) used' first' second' T'
+        turning_on {used'} h going h_is same_first same_second same_scratch = record {
+          same_first = same_then t.same_first same_first;
+          same_second = same_then t.same_second same_second;
+          same_scratch = scratch_then t.same_scratch same_scratch;
+          runs = λ s. subst (λ (C : Columns). Running (lent_of s) n schedule (whole_of s) readers' (exponent + h) (i + 1) used' C)
               next_current
-              (turn_runs (t.runs s) more s.task.within_u.few_qubits next chosen (left (step_task s)) h s.task.within_u.some_qubit none h_is);
+              (turn_runs (t.runs s) more s.task.within_u.few_qubits chosen (left (step_task s)) h s.task.within_u.some_qubit going h_is);
         }
 
 -- ---- the whole run
 
-module _ {u v schedule : List ℕ} {n : ℕ} {offsets : Offsets} {sizes : Sizes} {first second : Columns} (T : Tables)
-    (task : Task u v schedule n offsets sizes first second T.terminals T.node_index T.value_index T.memo) where
+module _ {u v schedule : List ℕ} {n : ℕ} {offsets : Offsets} {sizes : Sizes} (first second : LentStore) (T : LentScratch)
+    (task : Task u v schedule n offsets sizes (columns_of first) (columns_of second) T) where
   abbrev lent : Lent
   lent = lent_with sizes task.N task.L
 
@@ -132,16 +159,15 @@ module _ {u v schedule : List ℕ} {n : ℕ} {offsets : Offsets} {sizes : Sizes}
   along = steps schedule task.us task.vs
 
   -- no room for the identity
-  module _ {why : Refusal} {last : Columns} (is : why ≡ at_step 14 0) where
-    pub run_few_nodes : length first.level < 3 * n → Ran lent n last (ended lent n along) (Stopped why)
-    run_few_nodes less = ran_stopped (no_nodes n task.within_u.some_qubit lent along (omega (arith, less, task.first_long.of_level))) is
+  pub run_few_nodes : {last : Columns} → length first.level.now < 3 * n → Ran lent n last (ended lent n along) (Err (at_step NoRoom 0))
+  run_few_nodes less = ran_stopped (no_nodes n task.within_u.some_qubit lent along (omega (arith, less, task.first_long.of_level))) refl
 
-    pub run_few_values : length first.a < 2 → Ran lent n last (ended lent n along) (Stopped why)
-    run_few_values less = ran_stopped (no_values n task.within_u.some_qubit lent along (omega (arith, less, task.first_long.of_a))) is
+  pub run_few_values : {last : Columns} → length first.a.now < 2 → Ran lent n last (ended lent n along) (Err (at_step NoRoom 0))
+  run_few_values less = ran_stopped (no_values n task.within_u.some_qubit lent along (omega (arith, less, task.first_long.of_a))) refl
 
   -- room for it
-  module _ (nodes : 3 * n ≤ length first.level) (values : 2 ≤ length first.a) where
-    abbrev pub run_room : Room n first second
+  module _ (nodes : 3 * n ≤ length first.level.now) (values : 2 ≤ length first.a.now) where
+    abbrev pub run_room : Room n (columns_of first) (columns_of second)
     run_room = record {
       N = task.N;
       L = task.L;
@@ -152,9 +178,9 @@ module _ {u v schedule : List ℕ} {n : ℕ} {offsets : Offsets} {sizes : Sizes}
       second_long = task.second_long;
     }
 
-    module _ {first' second' : Columns} (first_kept : Kept first first') (second_kept : Kept second second')
-        (begun : Begun (length schedule) n first second first' second') where
-      abbrev pub run_starts : Started u v schedule n offsets sizes first' second' T.terminals T.node_index T.value_index T.memo
+    module _ {first' second' : LentStore} (same_first : SameColumns first first') (same_second : SameColumns second second')
+        (begun : Begun (length schedule) n (columns_of first) (columns_of second) (columns_of first') (columns_of second')) where
+      abbrev pub run_starts : Started u v schedule n offsets sizes (columns_of first') (columns_of second') T
       run_starts = record {
         task = record {
           us = task.us;
@@ -167,16 +193,16 @@ module _ {u v schedule : List ℕ} {n : ℕ} {offsets : Offsets} {sizes : Sizes}
           gates_v = task.gates_v;
           fitting = task.fitting;
           width = task.width;
-          first_long = long_kept task.first_long first_kept;
-          second_long = long_kept task.second_long second_kept;
+          first_long = long_same {s = first} {s' = first'} task.first_long same_first;
+          second_long = long_same {s = second} {s' = second'} task.second_long same_second;
           scratch = task.scratch;
         };
         identity = start_source n task.within_u.some_qubit (current_long (length schedule) task.first_long task.second_long)
             run_room.nodes run_room.values begun;
       }
 
-      pub run_followed : {last : Columns} {r : End}
-          → Followed u v schedule n offsets sizes first' second' T.terminals T.node_index T.value_index T.memo last r
+      pub run_followed : {last : Columns} {r : Result Finish Refusal}
+          → Followed u v schedule n offsets sizes (columns_of first') (columns_of second') T last r
           → Ran lent n last (ended lent n along) r
       run_followed {last} {r} followed =
           subst (λ (e : Ended). Ran lent n last e r)

@@ -1,71 +1,55 @@
 // A run along a schedule: from the identity, step by step, the two stores taking turns.
 #![tactic(auto)]
 
-ghost use Rattle.stores.specs.Columns.{columns};
+ghost use Rattle.stores.specs.Columns.{columns_of, SameColumns};
+ghost use Rattle.plans.specs.Layout.{SameScratch};
 ghost use Rattle.steps.specs.Stepping as stepping;
 ghost use Rattle.runs.specs.Running.{Task, Left};
-ghost use Rattle.runs.specs.Inside.{current, used_in, Room, Begun, Started, Followed};
+ghost use Rattle.runs.specs.Inside.{current, Room, Begun, Started, Followed};
 
-use choices::Offsets;
-use miters::Refusal;
-use plans::{Action, Sizes, Used};
+use choices::{Lists, Offsets};
+use circuits::Reader;
+use miters::{Refusal, StepFault};
+use plans::{Action, Scratch, Sizes, Used};
+use stores::Store;
 
-// How a run ends: the steps, the exponent, and how much of the first store holds the miter; or the refusal of a step.
+// The nodes and values of the identity: three nodes a qubit, one and zero.
+const NODES_A_QUBIT: u32 = 3;
+
+const IDENTITY_VALUES: u32 = 2;
+
+// A run that took every step: how many they are, the exponent, and how much of the first store holds the miter.
 #[derive(Clone, Copy)]
-pub enum End {
-    Done {
-        steps: u32,
-        exponent: u32,
-        used: Used,
-    },
-    Stopped(Refusal),
+pub struct Finish {
+    pub steps: u32,
+    pub exponent: u32,
+    pub used: Used,
 }
 
-// ---- the stores
+// What a run follows: two lists that passed the checks, on n qubits, the schedule along which they are taken, and where their gates begin.
+#[derive(Clone, Copy)]
+pub struct Course<'a> {
+    pub u: &'a [u8],
+    pub v: &'a [u8],
+    pub schedule: &'a [u8],
+    pub n: u32,
+    pub offsets: Offsets,
+}
+
+// ---- the stores, which take turns: both ways round are one call with the two exchanged, which a closure would make no plainer
 
 // The identity goes into the store that is current while all steps are left, so that the last step ends in the first store.
-fn begin(
-    left: usize,
-    n: u32,
-    level: &mut [u32],
-    low: &mut [u32],
-    high: &mut [u32],
-    a: &mut [i32],
-    b: &mut [i32],
-    c: &mut [i32],
-    d: &mut [i32],
-    other_level: &mut [u32],
-    other_low: &mut [u32],
-    other_high: &mut [u32],
-    other_a: &mut [i32],
-    other_b: &mut [i32],
-    other_c: &mut [i32],
-    other_d: &mut [i32],
-)
-    requires { Room n (columns level.old low.old high.old a.old b.old c.old d.old)
-        (columns other_level.old other_low.old other_high.old other_a.old other_b.old other_c.old other_d.old) }
-    ensures { Begun left n (columns level.old low.old high.old
-        a.old b.old c.old d.old)
-        (columns other_level.old other_low.old other_high.old
-        other_a.old other_b.old other_c.old other_d.old)
-        (columns level.new low.new high.new a.new b.new c.new d.new)
-        (columns other_level.new other_low.new other_high.new
-        other_a.new other_b.new other_c.new other_d.new) }
+fn begin(left: usize, n: u32, first: &mut Store<'_>, second: &mut Store<'_>)
+    requires { Room n (columns_of first.old) (columns_of second.old) }
+    ensures begun { Begun left n (columns_of first.old) (columns_of second.old) (columns_of first.new) (columns_of second.new) }
+    ensures same_first { SameColumns first.old first.new }
+    ensures same_second { SameColumns second.old second.new }
 {
     if left % 2 == 0 {
-        identities::identity(n, level, low, high, a, b, c, d);
-        return;
+        identities::identity(n, first);
+    } else {
+        identities::identity(n, second);
     }
-    identities::identity(
-        n,
-        other_level,
-        other_low,
-        other_high,
-        other_a,
-        other_b,
-        other_c,
-        other_d,
-    );
 }
 
 // One step, with so many left: from the store that is current into the other one.
@@ -74,283 +58,105 @@ fn advance(
     action: Action,
     n: u32,
     sizes: Sizes,
-    level: &mut [u32],
-    low: &mut [u32],
-    high: &mut [u32],
-    a: &mut [i32],
-    b: &mut [i32],
-    c: &mut [i32],
-    d: &mut [i32],
-    other_level: &mut [u32],
-    other_low: &mut [u32],
-    other_high: &mut [u32],
-    other_a: &mut [i32],
-    other_b: &mut [i32],
-    other_c: &mut [i32],
-    other_d: &mut [i32],
-    terminals: &mut [i32],
-    node_index: &mut [u32],
-    value_index: &mut [u32],
-    memo: &mut [u32],
-    tally: &mut [u32; 4],
-)
-    requires { stepping.Task action n sizes (used_in tally.old)
-        (current left (columns level.old low.old high.old a.old b.old c.old d.old)
-        (columns other_level.old other_low.old other_high.old other_a.old other_b.old other_c.old other_d.old))
-        (current left (columns other_level.old other_low.old other_high.old
-        other_a.old other_b.old other_c.old other_d.old)
-        (columns level.old low.old high.old a.old b.old c.old d.old))
-        terminals.old node_index.old value_index.old memo.old }
-    ensures { stepping.Left action n sizes (used_in tally.old)
-        (current left (columns level.old low.old high.old
-        a.old b.old c.old d.old)
-        (columns other_level.old other_low.old other_high.old
-        other_a.old other_b.old other_c.old other_d.old))
-        (current left (columns other_level.old other_low.old other_high.old
-        other_a.old other_b.old other_c.old other_d.old)
-        (columns level.old low.old high.old a.old b.old c.old d.old))
-        terminals.old node_index.old value_index.old memo.old
-        (current left (columns other_level.new other_low.new other_high.new
-        other_a.new other_b.new other_c.new other_d.new)
-        (columns level.new low.new high.new a.new b.new c.new d.new))
-        tally.new }
+    used: Used,
+    first: &mut Store<'_>,
+    second: &mut Store<'_>,
+    scratch: &mut Scratch<'_>,
+) -> Result<Used, StepFault>
+    requires { stepping.Task action n sizes used (current left (columns_of first.old) (columns_of second.old))
+        (current left (columns_of second.old) (columns_of first.old)) scratch.old }
+    ensures left { stepping.Left action n sizes used (current left (columns_of first.old) (columns_of second.old))
+        (current left (columns_of second.old) (columns_of first.old)) scratch.old
+        (current left (columns_of second.new) (columns_of first.new)) result }
+    ensures same_first { SameColumns first.old first.new }
+    ensures same_second { SameColumns second.old second.new }
+    ensures same_scratch { SameScratch scratch.old scratch.new }
 {
-    let used = Used {
-        nodes: tally[0],
-        values: tally[1],
-    };
     if left % 2 == 0 {
-        steps::take_step(
-            action,
-            n,
-            sizes,
-            used,
-            level,
-            low,
-            high,
-            a,
-            b,
-            c,
-            d,
-            other_level,
-            other_low,
-            other_high,
-            other_a,
-            other_b,
-            other_c,
-            other_d,
-            terminals,
-            node_index,
-            value_index,
-            memo,
-            tally,
-        );
-        return;
+        steps::take_step(action, n, sizes, used, &first.view(), second, scratch)
+    } else {
+        steps::take_step(action, n, sizes, used, &second.view(), first, scratch)
     }
-    steps::take_step(
-        action,
-        n,
-        sizes,
-        used,
-        other_level,
-        other_low,
-        other_high,
-        other_a,
-        other_b,
-        other_c,
-        other_d,
-        level,
-        low,
-        high,
-        a,
-        b,
-        c,
-        d,
-        terminals,
-        node_index,
-        value_index,
-        memo,
-        tally,
-    );
 }
 
 // The steps of the schedule, from the identity on.
 fn follow(
-    u: &[u8],
-    v: &[u8],
-    schedule: &[u8],
-    n: u32,
-    offsets: Offsets,
+    course: &Course<'_>,
     sizes: Sizes,
-    level: &mut [u32],
-    low: &mut [u32],
-    high: &mut [u32],
-    a: &mut [i32],
-    b: &mut [i32],
-    c: &mut [i32],
-    d: &mut [i32],
-    other_level: &mut [u32],
-    other_low: &mut [u32],
-    other_high: &mut [u32],
-    other_a: &mut [i32],
-    other_b: &mut [i32],
-    other_c: &mut [i32],
-    other_d: &mut [i32],
-    terminals: &mut [i32],
-    node_index: &mut [u32],
-    value_index: &mut [u32],
-    memo: &mut [u32],
-) -> End
-    requires { Started u.now v.now schedule.now n offsets sizes
-        (columns level.old low.old high.old a.old b.old c.old d.old)
-        (columns other_level.old other_low.old other_high.old other_a.old other_b.old other_c.old other_d.old)
-        terminals.old node_index.old value_index.old memo.old }
-    ensures { Followed u.now v.now schedule.now n offsets sizes
-        (columns level.old low.old high.old a.old b.old c.old d.old)
-        (columns other_level.old other_low.old other_high.old
-        other_a.old other_b.old other_c.old other_d.old)
-        terminals.old node_index.old value_index.old memo.old
-        (columns level.new low.new high.new a.new b.new c.new d.new) result }
+    first: &mut Store<'_>,
+    second: &mut Store<'_>,
+    scratch: &mut Scratch<'_>,
+) -> Result<Finish, Refusal>
+    requires { Started course.now.u.now course.now.v.now course.now.schedule.now course.now.n course.now.offsets sizes
+        (columns_of first.old) (columns_of second.old) scratch.old }
+    ensures followed { Followed course.now.u.now course.now.v.now course.now.schedule.now course.now.n course.now.offsets sizes
+        (columns_of first.old) (columns_of second.old) scratch.old (columns_of first.new) result }
+    ensures same_first { SameColumns first.old first.new }
+    ensures same_second { SameColumns second.old second.new }
+    ensures same_scratch { SameScratch scratch.old scratch.new }
 {
-    let steps = schedule.len();
-    let mut tally = [0; 4];
-    tally[0] = 3 * n;
-    tally[1] = 2;
-    let mut from = offsets;
-    let mut exponent = 0;
-    let mut i = 0;
-    while i < steps {
-        let next = choices::choose(u, v, schedule[i], from, n);
-        let action = next.action;
-        advance(
-            steps - i,
-            action,
-            n,
-            sizes,
-            level,
-            low,
-            high,
-            a,
-            b,
-            c,
-            d,
-            other_level,
-            other_low,
-            other_high,
-            other_a,
-            other_b,
-            other_c,
-            other_d,
-            terminals,
-            node_index,
-            value_index,
-            memo,
-            &mut tally,
-        );
-        if tally[2] != 0 {
-            return End::Stopped(miters::refused_step(tally[2], i as u32));
-        }
-        from = next.offsets;
-        exponent += choices::halves(action);
-        i += 1;
-    }
-    let used = Used {
-        nodes: tally[0],
-        values: tally[1],
+    let n = course.n;
+    let steps = course.schedule.len();
+    let mut lists = Lists {
+        first: Reader {
+            bytes: course.u,
+            at: course.offsets.first,
+        },
+        second: Reader {
+            bytes: course.v,
+            at: course.offsets.second,
+        },
     };
-    End::Done {
-        steps: i as u32,
+    let mut used = Used {
+        nodes: NODES_A_QUBIT * n,
+        values: IDENTITY_VALUES,
+    };
+    let mut exponent = 0;
+    for (i, step) in course.schedule.iter().enumerate() {
+        let action = choices::choose(&mut lists, *step, n);
+        let finished = i as u32;
+        used = advance(steps - i, action, n, sizes, used, first, second, scratch).map_err(
+            |fault| {
+                Refusal::Step {
+                    fault,
+                    steps: finished,
+                }
+            },
+        )?;
+        exponent += choices::halves(action);
+    }
+    Ok(Finish {
+        steps: steps as u32,
         exponent,
         used,
-    }
+    })
 }
 
 // The run: the miter's diagram in the first store, or the refusal of the identity or of a step.
 pub fn run(
-    u: &[u8],
-    v: &[u8],
-    schedule: &[u8],
-    n: u32,
-    offsets: Offsets,
+    course: &Course<'_>,
     sizes: Sizes,
-    level: &mut [u32],
-    low: &mut [u32],
-    high: &mut [u32],
-    a: &mut [i32],
-    b: &mut [i32],
-    c: &mut [i32],
-    d: &mut [i32],
-    other_level: &mut [u32],
-    other_low: &mut [u32],
-    other_high: &mut [u32],
-    other_a: &mut [i32],
-    other_b: &mut [i32],
-    other_c: &mut [i32],
-    other_d: &mut [i32],
-    terminals: &mut [i32],
-    node_index: &mut [u32],
-    value_index: &mut [u32],
-    memo: &mut [u32],
-) -> End
-    requires { Task u.now v.now schedule.now n offsets sizes
-        (columns level.old low.old high.old a.old b.old c.old d.old)
-        (columns other_level.old other_low.old other_high.old other_a.old other_b.old other_c.old other_d.old)
-        terminals.old node_index.old value_index.old memo.old }
-    ensures { Left u.now v.now schedule.now n offsets sizes
-        (columns level.old low.old high.old a.old b.old c.old d.old)
-        (columns other_level.old other_low.old other_high.old
-        other_a.old other_b.old other_c.old other_d.old)
-        terminals.old node_index.old value_index.old memo.old
-        (columns level.new low.new high.new a.new b.new c.new d.new) result }
+    first: &mut Store<'_>,
+    second: &mut Store<'_>,
+    scratch: &mut Scratch<'_>,
+) -> Result<Finish, Refusal>
+    requires { Task course.now.u.now course.now.v.now course.now.schedule.now course.now.n course.now.offsets sizes
+        (columns_of first.old) (columns_of second.old) scratch.old }
+    ensures left { Left course.now.u.now course.now.v.now course.now.schedule.now course.now.n course.now.offsets sizes
+        (columns_of first.old) (columns_of second.old) scratch.old (columns_of first.new) result }
+    ensures same_first { SameColumns first.old first.new }
+    ensures same_second { SameColumns second.old second.new }
+    ensures same_scratch { SameScratch scratch.old scratch.new }
 {
-    if level.len() < 3 * n as usize {
-        return End::Stopped(miters::refused_step(1, 0));
+    let n = course.n;
+    if first.level.len() < (NODES_A_QUBIT * n) as usize
+        || first.a.len() < IDENTITY_VALUES as usize
+    {
+        return Err(Refusal::Step {
+            fault: StepFault::NoRoom,
+            steps: 0,
+        });
     }
-    if a.len() < 2 {
-        return End::Stopped(miters::refused_step(1, 0));
-    }
-    begin(
-        schedule.len(),
-        n,
-        level,
-        low,
-        high,
-        a,
-        b,
-        c,
-        d,
-        other_level,
-        other_low,
-        other_high,
-        other_a,
-        other_b,
-        other_c,
-        other_d,
-    );
-    follow(
-        u,
-        v,
-        schedule,
-        n,
-        offsets,
-        sizes,
-        level,
-        low,
-        high,
-        a,
-        b,
-        c,
-        d,
-        other_level,
-        other_low,
-        other_high,
-        other_a,
-        other_b,
-        other_c,
-        other_d,
-        terminals,
-        node_index,
-        value_index,
-        memo,
-    )
+    begin(course.schedule.len(), n, first, second);
+    follow(course, sizes, first, second, scratch)
 }

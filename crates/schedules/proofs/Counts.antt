@@ -1,70 +1,45 @@
--- Counting the steps of a schedule byte by byte: what is counted and what is still to come make the whole. Assumes nothing.
-use mathlib.Core.Path.{◌≡◌, refl, sym, ap, ap₂, ◌∙◌}
-use mathlib.Core.Bool.{Bool, true, false, ◌&&◌, and-true}
+-- Counting the steps of a schedule: its zeros and its ones are all its bytes exactly if it has no other. Assumes nothing.
+use mathlib.Core.Path.{◌≡◌, refl, sym, ap, ◌∙◌}
+use mathlib.Core.Bool.{Bool, false, cond, ◌&&◌}
 use mathlib.Core.List.{List, [], ◌∷◌}
-use Prim.Native.Nat.{ℕ, zero, suc, ◌+◌, ◌-◌, ◌≤◌, ◌<◌}
-use native.Mathlib.Numerals.{add-one}
+use Prim.Native.Nat.{ℕ, zero, suc, ◌+◌, ◌≤◌}
 use native.Mathlib.Omega.{arith}
-use borrow.Author.Tests.{lt-leb}
+use borrow.Author.Tests.{ne_eqb, lt-leb}
 use lib.Dec.{eqb}
-use lib.ListN.{length, get_or, drop}
-use lib.Seq.{drop-cons, drop-length}
+use lib.ListN.{length}
+use Rattle.std.specs.List.{count_by}
+use Rattle.std.proofs.lemmas.Bool.Decides.{nat_tests}
+use Rattle.std.proofs.lemmas.List.Recursion.{is_count_by}
 use Rattle.schedules.specs.Schedule.{count, only_steps, fits}
 
--- i bytes are passed, all of them steps, and `ones` of them are 1
-pub record Passed (s : List ℕ) (ones i : ℕ) : Type 0 where
-  pub within : i ≤ length s
-  pub few : ones ≤ i
-  pub ones_are : ones + count 1 (drop i s) ≡ count 1 s
-  pub zeros_are : i - ones + count 0 (drop i s) ≡ count 0 s
-  pub only : only_steps (drop i s) ≡ only_steps s
-
-pub passed_none : (s : List ℕ) → Passed s 0 0
-passed_none s = record { within = omega arith; few = omega arith; ones_are = omega arith; zeros_are = omega arith; only = refl }
-
-module _ (s : List ℕ) (ones i : ℕ) (passed : Passed s ones i) (more : i < length s) where
-  split : drop i s ≡ get_or s i 0 ∷ drop (i + 1) s
-  split = drop-cons s i 0 more ∙ ap (λ (k : ℕ). get_or s i 0 ∷ drop k s) (sym (add-one i))
-
-  one_step : (step : ℕ) → step ≤ 1 → drop i s ≡ step ∷ drop (i + 1) s → Passed s (ones + step) (i + 1)
-  one_step zero h e = record {
-    within = omega arith;
-    few = omega (arith, passed.few);
-    ones_are = omega (arith, passed.ones_are, ap (count 1) e);
-    zeros_are = omega (arith, passed.few, passed.zeros_are, ap (count 0) e);
-    only = sym (ap only_steps e) ∙ passed.only;
-  }
-  one_step (suc zero) h e = record {
-    within = omega arith;
-    few = omega (arith, passed.few);
-    ones_are = omega (arith, passed.ones_are, ap (count 1) e);
-    zeros_are = omega (arith, passed.few, passed.zeros_are, ap (count 0) e);
-    only = sym (ap only_steps e) ∙ passed.only;
-  }
-  one_step (suc (suc step)) h e = absurd (omega arith)
-
-  pub passed_turn : get_or s i 0 ≤ 1 → Passed s (ones + get_or s i 0) (i + 1)
-  passed_turn h = one_step (get_or s i 0) h split
-
-  -- another byte
-  pub passed_stop : (m p : ℕ) → 1 < get_or s i 0 → false ≡ fits m p s
-  unfolding fits
-  passed_stop m p h = sym (ap (λ (b : Bool). eqb (count 0 s) m && (eqb (count 1 s) p && b)) other ∙ none (eqb (count 0 s) m) (eqb (count 1 s) p))
-    where
-      other : only_steps s ≡ false
-      other = sym passed.only ∙ ap only_steps split ∙ ap (λ (b : Bool). b && only_steps (drop (i + 1) s)) (lt-leb (get_or s i 0) 1 h)
-
-      none : (a b : Bool) → (a && (b && false)) ≡ false
-      none true true = refl
-      none true false = refl
-      none false b = refl
-
-pub passed_done : (m p : ℕ) (s : List ℕ) (ones i : ℕ) → Passed s ones i → length s ≤ i → (eqb (i - ones) m && eqb ones p) ≡ fits m p s
-unfolding fits
-passed_done m p s ones i passed end =
-    ap₂ (λ (z o : ℕ). eqb z m && eqb o p) (omega (arith, passed.zeros_are, ap (count 0) gone)) (omega (arith, passed.ones_are, ap (count 1) gone))
-    ∙ ap (λ (b : Bool). eqb (count 0 s) m && b) (sym (and-true (eqb (count 1 s) p)))
-    ∙ ap (λ (b : Bool). eqb (count 0 s) m && (eqb (count 1 s) p && b)) (sym (ap only_steps gone) ∙ passed.only)
+pub counted : (b : ℕ) (s : List ℕ) → count_by (λ x. eqb x b) s ≡ count b s
+counted b s = sym (is_count_by (count b) (λ x. eqb x b) refl step s)
   where
-    gone : drop i s ≡ []
-    gone = let at_end : i ≡ length s = omega (arith, passed.within) in ap (λ (k : ℕ). drop k s) at_end ∙ drop-length s
+    step : (x : ℕ) (s : List ℕ) → count b (x ∷ s) ≡ cond (eqb x b) (1 + count b s) (count b s)
+    step x s = ap (λ (k : ℕ). cond (eqb x b) k (count b s)) (omega arith)
+
+other : (b x : ℕ) (s : List ℕ) → (x ≡ b → ⊥) → count b (x ∷ s) ≡ count b s
+other b x s ne = ap (λ (t : Bool). cond t (suc (count b s)) (count b s)) (ne_eqb x b ne)
+
+few : (s : List ℕ) → count 0 s + count 1 s ≤ length s
+few [] = omega arith
+few (zero ∷ s) = omega (arith, few s)
+few (suc zero ∷ s) = omega (arith, few s)
+few (suc (suc x) ∷ s) = omega (arith, few s, other 0 (suc (suc x)) s (λ e. omega arith), other 1 (suc (suc x)) s (λ e. omega arith))
+
+-- one step more
+one_more : (k a n : ℕ) → k ≡ suc a → eqb k (suc n) ≡ eqb a n
+one_more k a n e = grind (arith, nat_tests)
+
+only_counted : (s : List ℕ) → eqb (count 0 s + count 1 s) (length s) ≡ only_steps s
+only_counted [] = refl
+only_counted (zero ∷ s) = one_more _ (count 0 s + count 1 s) (length s) (omega arith) ∙ only_counted s
+only_counted (suc zero ∷ s) = one_more _ (count 0 s + count 1 s) (length s) (omega arith) ∙ only_counted s
+only_counted (suc (suc x) ∷ s) =
+    let all : eqb (count 0 (suc (suc x) ∷ s) + count 1 (suc (suc x) ∷ s)) (suc (length s)) ≡ false =
+    ne_eqb _ _ (λ e. omega (arith, few s, other 0 (suc (suc x)) s (λ e. omega arith), other 1 (suc (suc x)) s (λ e. omega arith))) in
+    all ∙ sym (ap (λ (b : Bool). b && only_steps s) (lt-leb (suc (suc x)) 1 (omega arith)))
+
+pub fitted : (m p : ℕ) (s : List ℕ) → (eqb (count 0 s) m && (eqb (count 1 s) p && eqb (count 0 s + count 1 s) (length s))) ≡ fits m p s
+unfolding fits
+fitted m p s = ap (λ (b : Bool). eqb (count 0 s) m && (eqb (count 1 s) p && b)) (only_counted s)

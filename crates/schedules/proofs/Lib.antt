@@ -1,4 +1,3 @@
 pub mod Counts
 pub mod Filling
-pub mod Makers
 pub mod Proportions

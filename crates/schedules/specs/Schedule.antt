@@ -1,8 +1,8 @@
 -- Schedules. Definitions only; their laws are in proofs/Proportions.antt.
-use Rattle.std.specs.Prelude.{Bool, true, cond, ◌&&◌, List, [], ◌∷◌, ◌++◌, ℕ, zero, suc, ◌+◌, ◌-◌, ◌*◌, eqb, leb, ltb, length, drop}
+use Rattle.std.specs.Prelude.{Bool, true, cond, ◌&&◌, List, [], ◌∷◌, ◌++◌, ℕ, zero, suc, ◌+◌, ◌-◌, ◌*◌, eqb, leb, ltb, length, drop, Result, Ok, Err}
 use Rattle.circuits.specs.Refusals.{base_limits}
-use Rattle.schedules.specs.declared.Made.{Made}
-use Rattle.schedules.specs.declared.Made.TheVariants.{Steps, Refused}
+use Rattle.schedules.specs.declared.ScheduleFault.{ScheduleFault}
+use Rattle.schedules.specs.declared.ScheduleFault.TheVariants.{GateCount, ShortBuffer}
 
 -- ---- fitting
 
@@ -40,11 +40,11 @@ proportional m p = steps_from m p 0 0 (m + p)
 abbrev pub gate_limit : ℕ
 gate_limit = base_limits.gates
 
-unfoldable pub made : ℕ → ℕ → List ℕ → Made
+unfoldable pub made : ℕ → ℕ → List ℕ → Result ℕ ScheduleFault
 made m p buffer =
-    cond (leb m gate_limit && leb p gate_limit) (cond (leb (m + p) (length buffer)) (Steps (m + p)) (Refused 15)) (Refused 6)
+    cond (leb m gate_limit && leb p gate_limit) (cond (leb (m + p) (length buffer)) (Ok (m + p)) (Err ShortBuffer)) (Err GateCount)
 
 -- "fills the first m + p bytes, leaves the rest, and returns m + p"; the refusals "leave that buffer alone"
-abbrev pub filled : ℕ → ℕ → Made → List ℕ → List ℕ
-filled m p (Steps n) buffer = proportional m p ++ drop n buffer
-filled m p (Refused number) buffer = buffer
+abbrev pub filled : ℕ → ℕ → Result ℕ ScheduleFault → List ℕ → List ℕ
+filled m p (Ok n) buffer = proportional m p ++ drop n buffer
+filled m p (Err why) buffer = buffer

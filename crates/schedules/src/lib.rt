@@ -5,11 +5,11 @@ ghost use Rattle.std.specs.Prelude.{◌≡◌, ◌++◌, ◌+◌, ◌*◌, ◌<�
 ghost use Rattle.schedules.specs.Limited.{Limited};
 ghost use Rattle.schedules.specs.Schedule.{gate_limit, fits, next_step, proportional, made, filled};
 
-// The number of steps of the schedule made, or the number of the refusal.
-#[derive(Clone, Copy)]
-pub enum Made {
-    Steps(u32),
-    Refused(u32),
+// Why no schedule was made, by the refusal's number.
+#[derive(Clone, Copy, PartialEq, Eq, Debug)]
+pub enum ScheduleFault {
+    GateCount = 6,
+    ShortBuffer = 15,
 }
 
 // The most gates of a list.
@@ -19,66 +19,49 @@ const GATE_LIMIT: u32 = 4096;
 pub fn fits(s: &[u8], m: u32, p: u32) -> bool
     ensures { result ≡ fits m p s.now }
 {
-    let mut ones: usize = 0;
-    let mut i = 0;
-    while i < s.len() {
-        let step = s[i];
-        if 1 < step {
-            return false;
-        }
-        ones += step as usize;
-        i += 1;
-    }
-    if i - ones == m as usize {
-        ones == p as usize
-    } else {
-        false
-    }
+    let zeros = s.iter().filter(|step| **step == 0).count();
+    let ones = s.iter().filter(|step| **step == 1).count();
+    zeros == m as usize && ones == p as usize && zeros + ones == s.len()
 }
 
-// The byte of the next step, with i and j gates already taken.
+// The byte of the next step, with i and j gates already taken. A step stays a number: schedules are bytes in the C interface.
 fn next_step(m: u32, p: u32, i: u32, j: u32) -> u8
     requires { Limited m p i j }
     ensures { result ≡ next_step m p i j }
 {
-    if i < m {
-        if i * p <= j * m {
-            return 0;
-        }
-    }
-    1
+    if i < m && i * p <= j * m { 0 } else { 1 }
 }
 
-// The first m + p bytes, one a turn; i of them are 0 so far.
-fn fill(m: u32, p: u32, buffer: &mut [u8])
-    requires { (m ≤ gate_limit) × (p ≤ gate_limit) × (m + p ≤ length buffer.old) }
-    ensures { buffer.new ≡ proportional m p ++ drop (m + p) buffer.old }
+// Fills the slots of m + p steps; i of U and j of V are taken so far.
+fn fill(m: u32, p: u32, slots: &mut [u8])
+    requires { (m ≤ gate_limit) × (p ≤ gate_limit) × (length slots.old ≡ m + p) }
+    ensures { slots.new ≡ proportional m p }
 {
-    let steps = m + p;
-    let mut i: u32 = 0;
-    let mut at: u32 = 0;
-    while at < steps {
-        let step = next_step(m, p, i, at - i);
-        buffer[at as usize] = step;
-        i = i + 1 - step as u32;
-        at += 1;
+    let mut i = 0;
+    let mut j = 0;
+    for slot in slots.iter_mut() {
+        let step = next_step(m, p, i, j);
+        *slot = step;
+        if step == 0 {
+            i += 1;
+        } else {
+            j += 1;
+        }
     }
 }
 
 // The proportional schedule of m and p gates, written to the front of the buffer.
-pub fn proportional(m: u32, p: u32, buffer: &mut [u8]) -> Made
+pub fn proportional(m: u32, p: u32, buffer: &mut [u8]) -> Result<u32, ScheduleFault>
     ensures answer { result ≡ made m p buffer.old }
     ensures contents { buffer.new ≡ filled m p result buffer.old }
 {
-    if GATE_LIMIT < m {
-        return Made::Refused(6);
+    if GATE_LIMIT < m || GATE_LIMIT < p {
+        return Err(ScheduleFault::GateCount);
     }
-    if GATE_LIMIT < p {
-        return Made::Refused(6);
+    let steps = m + p;
+    if buffer.len() < steps as usize {
+        return Err(ScheduleFault::ShortBuffer);
     }
-    if buffer.len() < (m + p) as usize {
-        return Made::Refused(15);
-    }
-    fill(m, p, buffer);
-    Made::Steps(m + p)
+    fill(m, p, &mut buffer[..steps as usize]);
+    Ok(steps)
 }

@@ -1,9 +1,10 @@
 -- The way down to the corner, low at every level.
 -- Assumes nothing.
-use mathlib.Core.Path.{◌≡◌, refl, sym, ◌∙◌, ap, subst, subst₂}
+use mathlib.Core.Path.{◌≡◌, sym, ◌∙◌, ap, subst}
 use mathlib.Core.Bool.{false}
 use mathlib.Core.List.{List}
-use Prim.Native.Nat.{ℕ, zero, suc, ◌-◌, ◌≤◌}
+use Prim.Native.Nat.{ℕ, suc, ◌+◌, ◌-◌, ◌<◌}
+use native.Mathlib.Numerals.{add-one}
 use native.Mathlib.Omega.{arith}
 use lib.ListN.{replicate}
 use Rattle.cofactors.specs.Slots.{cofactor, landing, InNodes}
@@ -14,41 +15,40 @@ module _ (level low high : List ℕ) where
   lowest_from left asked r = landing level low high asked r (replicate left false)
 
   -- what is left of the way from the root is the way from r
-  pub record Descending (levels root r left : ℕ) : Type 0 where
-    pub within : left ≤ levels
-    pub rest : Descends level low high left (levels - left) r
-    pub same : lowest_from left (levels - left) r ≡ lowest_from levels 0 root
+  pub record Descending (levels root r asked : ℕ) : Type 0 where
+    pub rest : Descends level low high (levels - asked) asked r
+    pub same : lowest_from (levels - asked) asked r ≡ lowest_from levels 0 root
 
   module _ {levels root : ℕ} where
-    pub descent_starts : Descends level low high levels 0 root → Descending levels root root levels
+    pub descent_starts : Descends level low high levels 0 root → Descending levels root root 0
     descent_starts way = record {
-      within = omega arith;
-      rest = subst (λ (asked : ℕ). Descends level low high levels asked root) (sym none) way;
-      same = ap (λ (asked : ℕ). lowest_from levels asked root) none;
+      rest = subst (λ (left : ℕ). Descends level low high left 0 root) all way;
+      same = ap (λ (left : ℕ). lowest_from left 0 root) (sym all);
     }
       where
-        none : levels - levels ≡ 0
-        none = omega arith
+        all : levels ≡ levels - 0
+        all = omega arith
 
-    pub descent_there : (left r : ℕ) → Descending levels root r left → (left ≡ 0 → ⊥) → InNodes level low high r
-    descent_there zero r at some = absurd (some refl)
-    descent_there (suc left) r at some = at.rest.0
+    -- one level more
+    module _ {r asked : ℕ} (at : Descending levels root r asked) (more : asked < levels) where
+      one_more : levels - asked ≡ suc (levels - suc asked)
+      one_more = omega arith
 
-    pub descent_again : (left r x : ℕ) → Descending levels root r left → (left ≡ 0 → ⊥) → x ≡ cofactor level low high (levels - left) false r
-        → Descending levels root x (left - 1)
-    descent_again zero r x at some is = absurd (some refl)
-    descent_again (suc left) r x at some is = subst (Descending levels root x) fewer (record {
-      within = omega (arith, at.within);
-      rest = subst₂ (Descends level low high left) next (sym is) at.rest.1;
-      same = (λ i. lowest_from left (sym next i) (is i)) ∙ at.same;
-    })
+      abbrev way : Descends level low high (suc (levels - suc asked)) asked r
+      way = subst (λ (left : ℕ). Descends level low high left asked r) one_more at.rest
+
+      pub descent_there : InNodes level low high r
+      descent_there = way.0
+
+      pub descent_again : (x : ℕ) → x ≡ cofactor level low high asked false r → Descending levels root x (asked + 1)
+      descent_again x is = subst (Descending levels root x) (sym (add-one asked)) (record {
+        rest = subst (Descends level low high (levels - suc asked) (suc asked)) (sym is) way.1;
+        same = ap (lowest_from (levels - suc asked) (suc asked)) is
+            ∙ ap (λ (left : ℕ). lowest_from left asked r) (sym one_more) ∙ at.same;
+      })
+
+    pub descent_ends : {r asked : ℕ} → Descending levels root r asked → asked ≡ levels → r ≡ lowest_from levels 0 root
+    descent_ends {r} {asked} at end = ap (λ (left : ℕ). lowest_from left asked r) none ∙ at.same
       where
-        fewer : left ≡ suc left - 1
-        fewer = omega arith
-
-        next : suc (levels - suc left) ≡ levels - left
-        next = omega (arith, at.within)
-
-    pub descent_ends : (left r : ℕ) → Descending levels root r left → left ≡ 0 → r ≡ lowest_from levels 0 root
-    descent_ends zero r at e = at.same
-    descent_ends (suc left) r at e = absurd (omega arith)
+        none : 0 ≡ levels - asked
+        none = omega arith

@@ -2,12 +2,13 @@
 -- Assumes nothing.
 use mathlib.Core.Path.{◌≡◌, refl, sym, ◌∙◌, ap, ap₂, subst, ◌≡⟨◌⟩◌, ◌∎}
 use mathlib.Core.Bool.{Bool, cond}
-use Prim.Native.Nat.{ℕ, zero, suc, ◌+◌, ◌*◌, ◌-◌, ◌/◌, ◌%◌, ◌^◌, ◌<◌, ◌≤◌}
+use Prim.Native.Nat.{ℕ, zero, suc, ◌+◌, ◌*◌, ◌-◌, ◌/◌, ◌%◌, ◌^◌, ◌<◌}
 use native.Mathlib.Nat.{mod-lt, mod-eq_of_lt}
 use native.Mathlib.Omega.{arith}
 use lib.Pow.{mod-pow-add}
 use lib.ListN.{length}
 use lib.Dec.{eqb}
+use Rattle.std.specs.Prelude.{None}
 use Rattle.algebra.specs.declared.Entry.{Entry}
 use Rattle.algebra.specs.Matrix.{Bits}
 use Rattle.diagrams.specs.Diagram.{node, place}
@@ -54,15 +55,14 @@ number_bits n x h = number_low n x ∙ mod-eq_of_lt h
 abbrev along : Columns → ℕ → ℕ → Bits → Bits → ℕ
 along cols asked r row column = landing cols.level cols.low cols.high asked r (place row column)
 
--- from r on, the bits left lead to where all the bits lead from the root
-pub record Descended (cols : Columns) (nodes n row column r left : ℕ) : Type 0 where
-  pub within : left ≤ n
+-- from r on, the bits of the qubits from q on lead to where all the bits lead from the root
+pub record Descended (cols : Columns) (nodes n row column r q : ℕ) : Type 0 where
   pub used : Used nodes r
-  pub same : along cols (2 * (n - left)) r (bits left row) (bits left column) ≡ along cols 0 (2 * (nodes - 1) + 1) (bits n row) (bits n column)
+  pub same : along cols (2 * q) r (bits (n - q) row) (bits (n - q) column) ≡ along cols 0 (2 * (nodes - 1) + 1) (bits n row) (bits n column)
 
--- the bit of a number that is asked for with so many qubits left
-abbrev next_bit : ℕ → ℕ → Bool
-next_bit left x = eqb (x / 2 ^ (left - 1) % 2) 1
+-- the bit of a number that is asked for at qubit q
+abbrev next_bit : ℕ → ℕ → ℕ → Bool
+next_bit n q x = eqb (x / 2 ^ (n - q - 1) % 2) 1
 
 module _ (n nodes values : ℕ) (cols : Columns) (held : Searchable n nodes values cols) (row column : ℕ) where
   abbrev At : ℕ → ℕ → Type 0
@@ -71,70 +71,74 @@ module _ (n nodes values : ℕ) (cols : Columns) (held : Searchable n nodes valu
   abbrev down : ℕ → Bool → ℕ → ℕ
   down = cofactor cols.level cols.low cols.high
 
-  pub way_starts : At (2 * (nodes - 1) + 1) n
+  pub way_starts : At (2 * (nodes - 1) + 1) 0
   way_starts = record {
-    within = omega arith;
     used = root_used n nodes values cols held;
-    same = ap (λ (asked : ℕ). along cols asked (2 * (nodes - 1) + 1) (bits n row) (bits n column)) none;
+    same = ap (λ (k : ℕ). along cols 0 (2 * (nodes - 1) + 1) (bits k row) (bits k column)) all;
   }
     where
-      none : 2 * (n - n) ≡ 0
-      none = omega arith
+      all : n - 0 ≡ n
+      all = omega arith
 
   used_there : {r : ℕ} → Used nodes r → InNodes cols.level cols.low cols.high r
-  used_there used = nodes_there cols.level cols.low cols.high (task n nodes values cols held 0 0) (plain n nodes values cols held) used
+  used_there used = nodes_there cols.level cols.low cols.high (task n nodes values cols held 0 None) (plain n nodes values cols held) used
 
   used_below : (asked : ℕ) (b : Bool) (r : ℕ) → Used nodes r → Used nodes (down asked b r)
   used_below asked b r used =
-      used_down cols.level cols.low cols.high (task n nodes values cols held 0 0) (plain n nodes values cols held) asked b r used
+      used_down cols.level cols.low cols.high (task n nodes values cols held 0 None) (plain n nodes values cols held) asked b r used
 
-  module _ {left r : ℕ} (at : At r left) where
+  module _ {q r : ℕ} (at : At r q) where
     pub row_there : InNodes cols.level cols.low cols.high r
     row_there = used_there at.used
 
-    module _ {x : ℕ} (x_is : x ≡ down (2 * (n - left)) (next_bit left row) r) where
+    module _ {x : ℕ} (x_is : x ≡ down (2 * q) (next_bit n q row) r) where
       x_used : Used nodes x
-      x_used = subst (Used nodes) (sym x_is) (used_below (2 * (n - left)) (next_bit left row) r at.used)
+      x_used = subst (Used nodes) (sym x_is) (used_below (2 * q) (next_bit n q row) r at.used)
 
       pub column_there : InNodes cols.level cols.low cols.high x
       column_there = used_there x_used
 
-      pub way_again : {y : ℕ} → 0 < left → y ≡ down (2 * (n - left) + 1) (next_bit left column) x → At y (left - 1)
-      way_again {y} some y_is = record {
-        within = omega (arith, at.within);
-        used = subst (Used nodes) (sym y_is) (used_below (2 * (n - left) + 1) (next_bit left column) x x_used);
-        same = (λ i. along cols (sym next i) (y_by i) (bits k row) (bits k column)) ∙ by_one;
+      pub way_again : {y : ℕ} → q < n → y ≡ down (2 * q + 1) (next_bit n q column) x → At y (q + 1)
+      way_again {y} more y_is = record {
+        used = subst (Used nodes) (sym y_is) (used_below (2 * q + 1) (next_bit n q column) x x_used);
+        same = (λ i. along cols (sym next i) (y_by i) (bits (sym fewer i) row) (bits (sym fewer i) column)) ∙ by_one;
       }
         where
           k : ℕ
-          k = left - 1
+          k = n - q - 1
 
-          more : left ≡ suc k
-          more = omega arith
-
-          asked : ℕ
-          asked = 2 * (n - left)
-
-          next : suc (suc asked) ≡ 2 * (n - k)
-          next = omega (arith, at.within)
-
-          one_more : asked + 1 ≡ suc asked
+          one_more : n - q ≡ suc k
           one_more = omega arith
 
-          y_by : y ≡ down (suc asked) (next_bit left column) (down asked (next_bit left row) r)
-          y_by = y_is ∙ (λ i. down (one_more i) (next_bit left column) (x_is i))
+          fewer : k ≡ n - (q + 1)
+          fewer = omega arith
+
+          asked : ℕ
+          asked = 2 * q
+
+          next : suc (suc asked) ≡ 2 * (q + 1)
+          next = omega arith
+
+          next_asked : asked + 1 ≡ suc asked
+          next_asked = omega arith
+
+          y_by : y ≡ down (suc asked) (next_bit n q column) (down asked (next_bit n q row) r)
+          y_by = y_is ∙ (λ i. down (next_asked i) (next_bit n q column) (x_is i))
 
           by_one : along cols asked r (bits (suc k) row) (bits (suc k) column) ≡ along cols 0 (2 * (nodes - 1) + 1) (bits n row) (bits n column)
-          by_one = ap (λ (j : ℕ). along cols asked r (bits j row) (bits j column)) (sym more) ∙ at.same
+          by_one = ap (λ (j : ℕ). along cols asked r (bits j row) (bits j column)) (sym one_more) ∙ at.same
 
   -- ---- where it ends
 
   abbrev Ends : ℕ → Type 0
   Ends v = Landing n nodes values cols held v (given (store_in nodes values cols) (node (nodes - 1)) (bits n row) (bits n column))
 
-  module _ {left r : ℕ} (at : At r left) (end : left ≡ 0) where
+  module _ {q r : ℕ} (at : At r q) (end : q ≡ n) where
     ends_there : r ≡ along cols 0 (2 * (nodes - 1) + 1) (bits n row) (bits n column)
-    ends_there = (subst (At r) end at).same
+    ends_there = ap (λ (k : ℕ). along cols (2 * q) r (bits k row) (bits k column)) none ∙ at.same
+      where
+        none : 0 ≡ n - q
+        none = omega arith
 
     ends_lands : Ends r
     ends_lands = subst Ends (sym ends_there)
@@ -144,7 +148,7 @@ module _ (n nodes values : ℕ) (cols : Columns) (held : Searchable n nodes valu
     pub entry_used : r / 2 < values
     entry_used = ends_lands.used
 
-    pub entry_there : ValueColumns cols.a cols.b cols.c cols.d (r / 2 + 1)
+    pub entry_there : ValueColumns cols (r / 2 + 1)
     entry_there = slot_there n nodes values cols held ends_lands
 
     pub entry_given : {e : Entry} → e ≡ value_at cols (r / 2)

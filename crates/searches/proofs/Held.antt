@@ -77,7 +77,7 @@ module _ (n : ℕ) (M : Matrix) (nodes values : ℕ) (cols : Columns) (is : stor
       none_below i h = omega arith
 
   pub diagram_searchable : 1 ≤ n → n ≤ 16 → 1 ≤ nodes → nodes ≤ 65536 → values ≤ 65536
-      → NodeColumns cols.level cols.low cols.high nodes → ValueColumns cols.a cols.b cols.c cols.d values
+      → NodeColumns cols nodes → ValueColumns cols values
       → Searchable n nodes values cols
   diagram_searchable some_qubit few_qubits some_node few_nodes few_values node_columns value_columns = record {
     some_qubit = some_qubit;

@@ -8,18 +8,21 @@ use native.Mathlib.Omega.{arith}
 use lib.ListN.{length, get_or}
 use lib.Dec.{eqb}
 use borrow.Author.Tests.{eqb-true, eqb-false, eq-eqb, ne_eqb, lt-ltb, le-ltb}
+use Rattle.std.specs.Prelude.{Option, Some, None}
 use Rattle.algebra.specs.declared.Entry.{Entry}
 use Rattle.algebra.specs.Entry.{𝟘}
 use Rattle.algebra.specs.Matrix.{Bits}
 use Rattle.diagrams.specs.Diagram.{Ref, value, node, ref_of, Node, Store, unused, node_at, reached, Both, From, Tidy, same_entry}
 use Rattle.stores.specs.Columns.{Columns, zero_ref}
-use Rattle.uniques.specs.UniqueTable.{full, node_in}
-use Rattle.diagrams.proofs.Tests.{entry_decides, false_apart}
+use Rattle.uniques.specs.UniqueTable.{node_in}
+use Rattle.diagrams.proofs.Tests.{entry_decides, false_apart, apart_false}
 use Rattle.diagrams.proofs.Keeping.{Kept, found, fresh, kept}
 use Rattle.diagrams.specs.Reference.{Seen, Closed}
 use Rattle.uniques.proofs.Chains.{length_listed, get_d_listed}
 use Rattle.cofactors.specs.Slots.{store_in, value_at, cofactor, landing}
+use Rattle.places.specs.Search.{is_zero}
 use Rattle.places.specs.Ready.{Used}
+use Rattle.places.proofs.Blocks.{eqb_iff}
 
 -- ---- references
 
@@ -180,10 +183,10 @@ module _ (nodes values levels : ℕ) (cols : Columns) (𝓣 : Tidy 𝟘 levels (
 
   -- ---- the zero terminal
 
-  -- the slot of zero, or none
-  data Zero : ℕ → Type 0 where
-    slot_of : (j : ℕ) → j < values → value_at cols j ≡ 𝟘 → Zero (2 * j)
-    nowhere : ((j : ℕ) → j < values → value_at cols j ≡ 𝟘 → ⊥) → Zero full
+  -- the reference of zero, or none
+  data Zero : Option ℕ → Type 0 where
+    slot_of : (j : ℕ) → j < values → value_at cols j ≡ 𝟘 → Zero (Some (2 * j))
+    nowhere : ((j : ℕ) → j < values → value_at cols j ≡ 𝟘 → ⊥) → Zero None
 
   zero_found : Zero (zero_ref s.values)
   zero_found = by_kept (kept entry_decides 𝟘 𝟘 s.values)
@@ -199,12 +202,12 @@ module _ (nodes values levels : ℕ) (cols : Columns) (𝓣 : Tidy 𝟘 levels (
           rw (q, le-ltb (length s.values) (length s.values) (omega arith))
           (nowhere (λ j h e. absent j (omega (arith, len)) (value_is j h ∙ e)))
 
-  pub zero_value : zero_ref s.values % 2 ≡ 1 → zero_ref s.values ≡ full
-  zero_value = by_zero zero_found
+  pub zero_value : (z : ℕ) → zero_ref s.values ≡ Some z → z % 2 ≡ 0
+  zero_value z = by_zero zero_found
     where
-      by_zero : {z : ℕ} → Zero z → z % 2 ≡ 1 → z ≡ full
-      by_zero (slot_of j h is) odd = absurd (omega arith)
-      by_zero (nowhere none) odd = refl
+      by_zero : {o : Option ℕ} → Zero o → o ≡ Some z → z % 2 ≡ 0
+      by_zero (slot_of j h is) e = let same : 2 * j ≡ z = cc in omega arith
+      by_zero (nowhere none) e = cc
 
   -- ---- entries are told apart by their references
 
@@ -224,13 +227,12 @@ module _ (nodes values levels : ℕ) (cols : Columns) (𝓣 : Tidy 𝟘 levels (
         (λ p. sym 𝓥.entry ∙ ap (λ (k : ℕ). value_at cols (k / 2)) p ∙ 𝓦.entry)
         (λ p. halved v w 𝓥.even 𝓦.even (values_apart (v / 2) (w / 2) 𝓥.used 𝓦.used (𝓥.entry ∙ p ∙ sym 𝓦.entry)))
 
-    pub zero_test : eqb v (zero_ref s.values) ≡ same_entry e 𝟘
+    pub zero_test : is_zero (zero_ref s.values) v ≡ same_entry e 𝟘
     zero_test = by_zero zero_found
       where
-        by_zero : {z : ℕ} → Zero z → eqb v z ≡ same_entry e 𝟘
+        by_zero : {o : Option ℕ} → Zero o → is_zero o v ≡ same_entry e 𝟘
         by_zero (slot_of j h is) =
             let half : (2 * j) / 2 ≡ j = omega arith in
-            value_test (record { even = λ odd. omega arith; used = omega arith; entry = ap (value_at cols) half ∙ is })
-        by_zero (nowhere none) = same_test v full e 𝟘
-            (λ p. absurd (𝓥.even (ap (λ (k : ℕ). k % 2) p)))
-            (λ p. absurd (none (v / 2) 𝓥.used (𝓥.entry ∙ p)))
+            eqb_iff (2 * j) v v (2 * j) sym sym
+            ∙ value_test (record { even = λ odd. omega arith; used = omega arith; entry = ap (value_at cols) half ∙ is })
+        by_zero (nowhere none) = sym (apart_false entry_decides e 𝟘 (λ p. none (v / 2) 𝓥.used (𝓥.entry ∙ p)))

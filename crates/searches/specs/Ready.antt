@@ -20,7 +20,7 @@ pub record Searchable (n nodes values : ℕ) (cols : Columns) : Type 0 where
   pub some_node : 1 ≤ nodes
   pub few_nodes : nodes ≤ 65536
   pub few_values : values ≤ 65536
-  pub node_columns : NodeColumns cols.level cols.low cols.high nodes
-  pub value_columns : ValueColumns cols.a cols.b cols.c cols.d values
+  pub node_columns : NodeColumns cols nodes
+  pub value_columns : ValueColumns cols values
   pub tidy : Tidy 𝟘 (levels n) (store_in nodes values cols)
   pub closed : Closed (store_in nodes values cols) nodes values

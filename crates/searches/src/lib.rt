@@ -3,110 +3,74 @@
 
 ghost use Rattle.std.specs.Prelude.{◌≡◌, false, ◌-◌, replicate};
 ghost use Rattle.diagrams.specs.Diagram.{node};
-ghost use Rattle.stores.specs.Columns.{columns};
+ghost use Rattle.stores.specs.Columns.{viewed};
 ghost use Rattle.miters.specs.Report.{verdict};
 ghost use Rattle.cofactors.specs.Slots.{store_in, cofactor, landing, bits, given, InNodes};
 ghost use Rattle.searches.specs.Ready.{Descends, Searchable};
 
 use algebra::Entry;
 use miters::{Difference, Verdict};
-use places::{Found, Task};
+use places::Task;
+use stores::View;
 
 // The reference to the corner's value: low at every level.
-fn corner_of(level: &[u32], low: &[u32], high: &[u32], levels: u32, root: u32) -> u32
-    requires { Descends level.now low.now high.now levels 0 root }
-    ensures { result ≡ landing level.now low.now high.now 0 root (replicate levels false) }
+fn corner_of(store: &View<'_>, levels: u32, root: u32) -> u32
+    requires { Descends store.now.level.now store.now.low.now store.now.high.now levels 0 root }
+    ensures { result ≡ landing store.now.level.now store.now.low.now store.now.high.now 0 root (replicate levels false) }
 {
     let mut r = root;
-    let mut left = levels;
-    while left != 0 {
-        r = cofactors::look(level, low, high, r, levels - left).low;
-        left -= 1;
+    for asked in 0..levels {
+        r = cofactors::look(store, r, asked).low;
     }
     r
 }
 
 // The verdict that the diagram in the first slots of the columns gives. Its root is the last node.
-pub fn read_verdict(
-    level: &[u32],
-    low: &[u32],
-    high: &[u32],
-    a: &[i32],
-    b: &[i32],
-    c: &[i32],
-    d: &[i32],
-    nodes: u32,
-    values: u32,
-    n: u32,
-) -> Verdict
-    requires { Searchable n nodes values (columns level.now low.now high.now a.now b.now c.now d.now) }
-    ensures { result ≡ verdict n (given
-        (store_in nodes values
-        (columns level.now low.now high.now a.now b.now c.now d.now))
-        (node (nodes - 1))) }
+pub fn read_verdict(store: &View<'_>, nodes: u32, values: u32, n: u32) -> Verdict
+    requires { Searchable n nodes values (viewed store.now) }
+    ensures { result ≡ verdict n (given (store_in nodes values (viewed store.now)) (node (nodes - 1))) }
 {
     let levels = 2 * n;
     let root = 2 * (nodes - 1) + 1;
-    let corner = corner_of(level, low, high, levels, root);
-    let zero = stores::zero_of(a, b, c, d, values);
+    let corner = corner_of(store, levels, root);
+    let zero = store.zero(values);
     let task = Task {
         nodes,
         levels,
         corner,
         zero,
     };
-    let factor = stores::value_at(a, b, c, d, (corner / 2) as usize);
-    match places::ask_row(level, low, high, task, levels, root, 0, 0) {
-        Found::Nowhere => Verdict::Equal(factor),
-        Found::At { row, column, value } => Verdict::Different(Difference {
-            row,
-            column,
-            entry: stores::value_at(a, b, c, d, (value / 2) as usize),
+    let factor = store.value_at((corner / 2) as usize);
+    match places::ask_row(store, task, levels, root, 0, 0) {
+        None => Verdict::Equal(factor),
+        Some(place) => Verdict::Different(Difference {
+            row: place.row,
+            column: place.column,
+            entry: store.value_at((place.value / 2) as usize),
             corner: factor,
         }),
     }
 }
 
 // The child of r by a bit of a level: r itself where it does not ask for it.
-fn child_of(level: &[u32], low: &[u32], high: &[u32], r: u32, asked: u32, bit: bool) -> u32
-    requires { InNodes level.now low.now high.now r }
-    ensures { result ≡ cofactor level.now low.now high.now asked bit r }
+fn child_of(store: &View<'_>, r: u32, asked: u32, bit: bool) -> u32
+    requires { InNodes store.now.level.now store.now.low.now store.now.high.now r }
+    ensures { result ≡ cofactor store.now.level.now store.now.low.now store.now.high.now asked bit r }
 {
-    let s = cofactors::look(level, low, high, r, asked);
-    if bit {
-        return s.high;
-    }
-    s.low
+    let s = cofactors::look(store, r, asked);
+    if bit { s.high } else { s.low }
 }
 
 // The entry at a row and a column: down from the root by a row bit and a column bit of each qubit, qubit 0 first.
-pub fn entry_at(
-    level: &[u32],
-    low: &[u32],
-    high: &[u32],
-    a: &[i32],
-    b: &[i32],
-    c: &[i32],
-    d: &[i32],
-    nodes: u32,
-    values: u32,
-    n: u32,
-    row: u32,
-    column: u32,
-) -> Entry
-    requires { Searchable n nodes values (columns level.now low.now high.now a.now b.now c.now d.now) }
-    ensures { result ≡ given
-        (store_in nodes values
-        (columns level.now low.now high.now a.now b.now c.now d.now))
-        (node (nodes - 1)) (bits n row) (bits n column) }
+pub fn entry_at(store: &View<'_>, nodes: u32, values: u32, n: u32, row: u32, column: u32) -> Entry
+    requires { Searchable n nodes values (viewed store.now) }
+    ensures { result ≡ given (store_in nodes values (viewed store.now)) (node (nodes - 1)) (bits n row) (bits n column) }
 {
     let mut r = 2 * (nodes - 1) + 1;
-    let mut left = n;
-    while left > 0 {
-        let asked = 2 * (n - left);
-        left -= 1;
-        r = child_of(level, low, high, r, asked, (row >> left) % 2 == 1);
-        r = child_of(level, low, high, r, asked + 1, (column >> left) % 2 == 1);
+    for q in 0..n {
+        let shift = n - q - 1;
+        r = child_of(store, r, 2 * q, (row >> shift) % 2 == 1);
+        r = child_of(store, r, 2 * q + 1, (column >> shift) % 2 == 1);
     }
-    stores::value_at(a, b, c, d, (r / 2) as usize)
+    store.value_at((r / 2) as usize)
 }

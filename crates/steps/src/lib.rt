@@ -1,130 +1,106 @@
 // A step along a schedule: the reduced diagram in one store times a gate, into the other store, with tables that follow its size.
 #![tactic(auto)]
 
-ghost use Rattle.std.specs.Prelude.{[], ◌∷◌};
-ghost use Rattle.stores.specs.Columns.{columns};
+ghost use Rattle.stores.specs.Columns.{columns_of, viewed, SameColumns};
+ghost use Rattle.transitions.specs.Source.{cols_of, vals_of};
+ghost use Rattle.uniques.specs.UniqueTable.{SameNodeTable, SameValueTable};
+ghost use Rattle.plans.specs.Layout.{SameScratch};
 ghost use Rattle.products.specs.Step.{Fresh};
 ghost use Rattle.products.specs.Step as product;
-ghost use Rattle.turns.specs.Work.{work};
-ghost use Rattle.steps.specs.Walking.{Walked};
 ghost use Rattle.steps.specs.Stepping.{Task, Left};
+ghost use Rattle.steps.specs.Answering.{begun, Walked, Publishable, Answered};
 
-use plans::{Action, Sizes, Used};
+use algebra::Entry;
+use miters::StepFault;
+use plans::{Action, Scratch, Sizes, Used};
+use stores::{Store, View};
+use transitions::Plan;
+use turns::{Phase, Work};
+use uniques::{NodeTable, ValueTable};
 
-// The planned walk, from the source's columns.
-fn walk<'s>(
-    plan: &[u32; 32],
+// The planned walk, into empty tables: how far it comes. The tables are lent to it apart, since then they are known after it.
+fn walk<'w, 'n, 'v>(
+    nodes: &'w mut NodeTable<'n>,
+    values: &'w mut ValueTable<'v>,
+    memo: &'w mut [u32],
+    plan: &Plan,
+    src: &View<'_>,
     root: u32,
-    src_level: &'s [u32],
-    src_low: &'s [u32],
-    src_high: &'s [u32],
-    src_a: &'s [i32],
-    src_b: &'s [i32],
-    src_c: &'s [i32],
-    src_d: &'s [i32],
-    level: &mut [u32],
-    low: &mut [u32],
-    high: &mut [u32],
-    terminals: &mut [i32],
-    node_index: &mut [u32],
-    value_index: &mut [u32],
-    memo: &mut [u32],
-    tally: &mut [u32; 4],
-)
-    requires task { product.Task plan.now (src_level.now ∷ src_low.now ∷ src_high.now ∷ [])
-        (src_a.now ∷ src_b.now ∷ src_c.now ∷ src_d.now ∷ []) root }
-    requires fresh { Fresh plan.now (work level.old low.old high.old terminals.old node_index.old value_index.old memo.old tally.old) }
-    ensures { Walked plan.now (src_level.now ∷ src_low.now ∷ src_high.now ∷ [])
-        (src_a.now ∷ src_b.now ∷ src_c.now ∷ src_d.now ∷ []) root
-        (work level.old low.old high.old terminals.old
-        node_index.old value_index.old memo.old tally.old)
-        (work level.new low.new high.new terminals.new
-        node_index.new value_index.new memo.new tally.new) }
+) -> Phase
+    requires task { product.Task plan.now (cols_of src.now) (vals_of src.now) root }
+    requires fresh { Fresh plan.now (begun nodes values memo) }
+    ensures same_nodes { SameNodeTable nodes.old nodes.new }
+    ensures same_values { SameValueTable values.old values.new }
+    ensures walked { Walked plan.now (cols_of src.now) (vals_of src.now) root
+        nodes.old values.old nodes.new values.new result }
 {
-    let nodes = [src_level, src_low, src_high];
-    let values = [src_a, src_b, src_c, src_d];
-    products::multiply(
-        plan,
-        root,
-        &nodes,
-        &values,
-        level,
-        low,
-        high,
-        terminals,
-        node_index,
-        value_index,
+    let mut work = Work {
+        nodes,
+        values,
         memo,
-        tally,
-    );
+        phase: Phase::Building,
+    };
+    products::multiply(&mut work, plan, src, root);
+    work.phase
 }
 
-// The product of the diagram in the source's columns with a gate goes into the destination's. The tally then has its nodes and
-// its values, and in slot 2 whether there was no room for it (1) or a number lay outside the width (more).
-pub fn take_step<'s>(
+// What a walk comes to by its phase: its terminals go into the columns, and its counts are the answer; or why there is no product.
+fn publish(
+    phase: Phase,
+    used: Used,
+    terminals: &[Entry],
+    target: &mut Store<'_>,
+) -> Result<Used, StepFault>
+    requires { Publishable phase used terminals.now (columns_of target.old) }
+    ensures answered { Answered phase used terminals.now (columns_of target.old) (columns_of target.new) result }
+    ensures same_columns { SameColumns target.old target.new }
+{
+    match phase {
+        Phase::Building => {
+            target.publish(terminals, used.values);
+            Ok(used)
+        }
+        Phase::Full => Err(StepFault::NoRoom),
+        Phase::Outside => Err(StepFault::OutsideWidth),
+    }
+}
+
+// The product of the diagram in the source with a gate goes into the target: its counts, or why there is none.
+pub fn take_step(
     action: Action,
     n: u32,
     sizes: Sizes,
     used: Used,
-    src_level: &'s [u32],
-    src_low: &'s [u32],
-    src_high: &'s [u32],
-    src_a: &'s [i32],
-    src_b: &'s [i32],
-    src_c: &'s [i32],
-    src_d: &'s [i32],
-    level: &mut [u32],
-    low: &mut [u32],
-    high: &mut [u32],
-    a: &mut [i32],
-    b: &mut [i32],
-    c: &mut [i32],
-    d: &mut [i32],
-    terminals: &mut [i32],
-    node_index: &mut [u32],
-    value_index: &mut [u32],
-    memo: &mut [u32],
-    tally: &mut [u32; 4],
-)
-    requires { Task action n sizes used
-        (columns src_level.now src_low.now src_high.now src_a.now src_b.now src_c.now src_d.now)
-        (columns level.old low.old high.old a.old b.old c.old d.old)
-        terminals.old node_index.old value_index.old memo.old }
-    ensures { Left action n sizes used
-        (columns src_level.now src_low.now src_high.now
-        src_a.now src_b.now src_c.now src_d.now)
-        (columns level.old low.old high.old a.old b.old c.old d.old)
-        terminals.old node_index.old value_index.old memo.old
-        (columns level.new low.new high.new a.new b.new c.new d.new)
-        tally.new }
+    source: &View<'_>,
+    target: &mut Store<'_>,
+    scratch: &mut Scratch<'_>,
+) -> Result<Used, StepFault>
+    requires { Task action n sizes used (viewed source.now) (columns_of target.old) scratch.old }
+    ensures left { Left action n sizes used (viewed source.now) (columns_of target.old) scratch.old (columns_of target.new) result }
+    ensures same_columns { SameColumns target.old target.new }
+    ensures same_scratch { SameScratch scratch.old scratch.new }
 {
-    let mut plan = [0; 32];
-    plans::plan_step(
-        action, n, sizes, used, src_a, src_b, src_c, src_d, &mut plan,
-    );
-    plans::clear_tables(&plan, level.len(), a.len(), node_index, value_index, memo);
-    let mut counts = [0; 4];
-    walk(
-        &plan,
-        2 * used.nodes - 1,
-        src_level,
-        src_low,
-        src_high,
-        src_a,
-        src_b,
-        src_c,
-        src_d,
-        level,
-        low,
-        high,
-        terminals,
-        node_index,
-        value_index,
-        memo,
-        &mut counts,
-    );
-    *tally = counts;
-    if counts[2] == 0 {
-        stores::publish(terminals, counts[1], a, b, c, d);
-    }
+    let plan = plans::plan_step(action, n, sizes, used, source);
+    plans::clear_tables(&plan, target.level.len(), target.a.len(), scratch);
+    let mut nodes = NodeTable {
+        level: target.level,
+        low: target.low,
+        high: target.high,
+        index: scratch.node_index,
+        heads: plan.node_heads,
+        used: 0,
+    };
+    let mut values = ValueTable {
+        terminals: scratch.terminals,
+        index: scratch.value_index,
+        heads: plan.value_heads,
+        used: 0,
+    };
+    let root = 2 * used.nodes - 1;
+    let phase = walk(&mut nodes, &mut values, scratch.memo, &plan, source, root);
+    let built = Used {
+        nodes: nodes.used,
+        values: values.used,
+    };
+    publish(phase, built, scratch.terminals, target)
 }

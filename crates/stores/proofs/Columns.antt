@@ -1,6 +1,6 @@
--- Columns: their lengths, their used slots, and how one grows in place.
+-- Columns: their lengths, their used slots, and how one grows in place; which columns are lent.
 -- Assumes nothing.
-use mathlib.Core.Path.{◌≡◌, sym, ◌∙◌, ap}
+use mathlib.Core.Path.{◌≡◌, refl, sym, ◌∙◌, ap}
 use mathlib.Core.List.{List, [], ◌∷◌, ◌++◌, append_assoc}
 use Prim.Native.Nat.{ℕ, suc, ◌-◌, ◌<◌, ◌≤◌}
 use native.Mathlib.Omega.{arith}
@@ -8,7 +8,8 @@ use native.Mathlib.Nat.{sub-zero}
 use lib.ListN.{length, take, set, replicate, length-append, length-replicate}
 use lib.Seq.{take-append_seam, set-append_seam}
 use Rattle.diagrams.specs.Diagram.{empty}
-use Rattle.stores.specs.Columns.{column, held, cleared}
+use Rattle.stores.specs.Columns.{column, held, cleared, SameColumns}
+use Rattle.stores.specs.declared.Store.{Store as LentStore}
 
 module _ {A : Type 0} (nought : A) (N : ℕ) (l : List A) where
   pub length_column : length l ≤ N → length (column nought N l) ≡ N
@@ -30,3 +31,41 @@ module _ {A : Type 0} (nought : A) (N : ℕ) (l : List A) where
 pub held_empty : (N L : ℕ) → held N L empty ≡ cleared N L
 unfolding held cleared
 held_empty N L = simp sub-zero
+
+-- ---- the columns lent
+
+pub same_none : (s : LentStore) → SameColumns s s
+same_none s = record {
+  level = refl;
+  low = refl;
+  high = refl;
+  a = refl;
+  b = refl;
+  c = refl;
+  d = refl;
+  level_long = refl;
+  low_long = refl;
+  high_long = refl;
+  a_long = refl;
+  b_long = refl;
+  c_long = refl;
+  d_long = refl;
+}
+
+pub same_then : {s s' s'' : LentStore} → SameColumns s s' → SameColumns s' s'' → SameColumns s s''
+same_then h k = record {
+  level = k.level ∙ h.level;
+  low = k.low ∙ h.low;
+  high = k.high ∙ h.high;
+  a = k.a ∙ h.a;
+  b = k.b ∙ h.b;
+  c = k.c ∙ h.c;
+  d = k.d ∙ h.d;
+  level_long = k.level_long ∙ h.level_long;
+  low_long = k.low_long ∙ h.low_long;
+  high_long = k.high_long ∙ h.high_long;
+  a_long = k.a_long ∙ h.a_long;
+  b_long = k.b_long ∙ h.b_long;
+  c_long = k.c_long ∙ h.c_long;
+  d_long = k.d_long ∙ h.d_long;
+}

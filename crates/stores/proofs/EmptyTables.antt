@@ -2,10 +2,10 @@
 -- Assumes nothing.
 use mathlib.Core.Path.{◌≡◌, refl}
 use mathlib.Core.List.{List, []}
-use Prim.Native.Nat.{ℕ, ◌+◌, ◌*◌, ◌<◌, ◌≤◌}
+use Prim.Native.Nat.{ℕ, ◌+◌, ◌<◌, ◌≤◌}
 use native.Mathlib.Omega.{arith}
-use lib.IntN.{ℤ}
 use lib.ListN.{length}
+use Rattle.algebra.specs.declared.Entry.{Entry}
 use Rattle.algebra.specs.Entry.{𝟘}
 use Rattle.diagrams.specs.Diagram.{unused}
 use Rattle.stores.specs.Columns.{zeroed}
@@ -39,7 +39,7 @@ cleared_nodes N heads level low high index p q r small some long = record {
   indexed = cleared_indexed (node_hash heads) unused N heads index small some long;
 }
 
-pub cleared_values : (L heads : ℕ) (vals : List ℤ) (index : List ℕ) → length vals ≡ 4 * L
+pub cleared_values : (L heads : ℕ) (vals : List Entry) (index : List ℕ) → length vals ≡ L
     → L ≤ 65536 → 0 < heads → L + heads ≤ length index → ValuesHeld L heads [] vals (zeroed 0 L (L + heads) index)
 unfolding listed
 cleared_values L heads vals index p small some long = record {

@@ -1,14 +1,15 @@
--- Columns as a loop writes them slot by slot: cleared from a slot on, or filled from the first on.
+-- Columns: cleared from a slot on, or written by a loop slot by slot from the first on.
 -- Assumes nothing.
 use mathlib.Core.Path.{◌≡◌, refl, sym, ◌∙◌, ap, ◌≡⟨◌⟩◌, ◌∎}
 use mathlib.Core.List.{List, [], ◌∷◌, ◌++◌, map, map-append, append_assoc, append-nil}
 use Prim.Native.Nat.{ℕ, zero, suc, ◌+◌, ◌-◌, ◌<◌, ◌≤◌}
-use native.Mathlib.Nat.{sub_self}
 use native.Mathlib.Numerals.{add-one}
 use native.Mathlib.Omega.{arith}
-use lib.ListN.{length, get_or, take, drop, set, replicate, length-append, length-replicate, length-take, length-drop, take-append-drop}
-use lib.ListN.{get_or-replicate, replicate-append-replicate, get_or-append, drop_of_length-le}
+use lib.ListN.{length, get_or, take, drop, set, replicate, length-append, length-replicate, length-take, length-drop}
+use lib.ListN.{get_or-replicate, get_or-append, drop_of_length-le}
+use borrow.Rule.Slice.PartMut.{put_mid}
 use lib.Seq.{drop-cons, set_at, take-suc, length-take-le, get_or-append-add}
+use Rattle.std.proofs.lemmas.List.{drop-drop}
 use Rattle.stores.specs.Columns.{column, over, zeroed}
 use Rattle.uniques.specs.UniqueTable.{listed}
 use Rattle.uniques.proofs.Chains.{length_listed}
@@ -37,21 +38,14 @@ patch_snoc {A} from l old x i within is below =
 -- ---- cleared
 
 module _ {A : Type 0} (nought : A) (l : List A) (from : ℕ) where
-  pub zeroed_none : zeroed nought from from l ≡ l
+  -- as a part of a column leaves it that was filled
+  pub part_zeroed : (to : ℕ) {part : List A} → from ≤ to → to ≤ length l → part ≡ replicate (length (take (to - from) (drop from l))) nought
+      → put_mid from (to - from) l part ≡ zeroed nought from to l
   unfolding zeroed
-  zeroed_none = rw sub_self (take-append-drop from l)
-
-  pub zeroed_more : (i : ℕ) → from ≤ i → i < length l → set (zeroed nought from i l) i nought ≡ zeroed nought from (i + 1) l
-  unfolding zeroed
-  zeroed_more i le below =
-      patch_snoc from zeros l nought i (omega arith) (omega (arith, length-replicate (i - from) nought)) below
-      ∙ ap (λ (z : List A). take from l ++ (z ++ drop (i + 1) l)) (replicate-append-replicate (i - from) 1 nought ∙ ap (λ (k : ℕ). replicate k nought) one_more)
-    where
-      zeros : List A
-      zeros = replicate (i - from) nought
-
-      one_more : i - from + 1 ≡ i + 1 - from
-      one_more = omega arith
+  part_zeroed to le fits is =
+      let rejoined : from + (to - from) ≡ to = omega arith in
+      let long : length (take (to - from) (drop from l)) ≡ to - from = simp (length-take, length-drop) (omega arith) in
+      rw (is, long, drop-drop (to - from) from l, rejoined)
 
   pub length_zeroed : (to : ℕ) → from ≤ to → to ≤ length l → length (zeroed nought from to l) ≡ length l
   unfolding zeroed
@@ -95,9 +89,6 @@ module _ {A : Type 0} (g : ℕ → A) (old : List A) where
       patch_snoc 0 (listed i g) old (g i) i (omega arith) (omega (arith, length_listed i g)) below
       ∙ ap (λ (k : ℕ). listed k g ++ drop (i + 1) old) (sym (add-one i))
 
-  pub length_filled : (i : ℕ) → i ≤ length old → length (filled i) ≡ length old
-  length_filled i fits = simp (length-append, length_listed, length-drop) (omega arith)
-
   pub filled_over : (i : ℕ) → filled i ≡ over (listed i g) old
   filled_over i = ap (λ (k : ℕ). listed i g ++ drop k old) (sym (length_listed i g))
 
@@ -112,32 +103,3 @@ unfolding listed
 listed_take l blank zero h = refl
 listed_take {A} l blank (suc n) h =
     ap (λ (m : List A). m ++ (get_or l n blank ∷ [])) (listed_take l blank n (omega arith)) ∙ sym (take-suc l n blank h)
-
--- ---- a loop that goes through the slots
-
--- it has come to slot i on its way from one slot to another, and the column has the form that it has there
-pub record Passing {A : Type 0} (form : ℕ → List A) (from to : ℕ) (l : List A) (i : ℕ) : Type 0 where
-  pub begun : from ≤ i
-  pub bound : i ≤ to
-  pub is : l ≡ form i
-
-module _ {A : Type 0} {form : ℕ → List A} {from to : ℕ} {l : List A} {i : ℕ} (passing : Passing form from to l i) where
-  pub passes : (x : A) → set (form i) i x ≡ form (i + 1) → i < to → Passing form from to (set l i x) (i + 1)
-  passes x more less = record {
-    begun = omega (arith, passing.begun);
-    bound = omega arith;
-    is = ap (λ (m : List A). set m i x) passing.is ∙ more;
-  }
-
-  pub passed : to ≤ i → l ≡ form to
-  passed done = let e : i ≡ to = omega (arith, passing.bound) in passing.is ∙ ap form e
-
--- its column keeps its length
-pub clearing_length : {A : Type 0} (nought : A) (old : List A) (from : ℕ) {to : ℕ} {l : List A} {i : ℕ}
-    → Passing (λ i. zeroed nought from i old) from to l i → to ≤ length old → length l ≡ length old
-clearing_length nought old from {i = i} passing fits =
-    ap length passing.is ∙ length_zeroed nought old from i passing.begun (omega (arith, passing.bound))
-
-pub filling_length : {A : Type 0} (g : ℕ → A) (old : List A) {to : ℕ} {l : List A} {i : ℕ}
-    → Passing (filled g old) 0 to l i → to ≤ length old → length l ≡ length old
-filling_length g old {i = i} passing fits = ap length passing.is ∙ length_filled g old i (omega (arith, passing.bound))

@@ -2,73 +2,111 @@
 -- Assumes nothing.
 use mathlib.Core.Path.{◌≡◌, refl, sym, ◌∙◌, ap, ap₂, ◌≡⟨◌⟩◌, ◌∎}
 use mathlib.Core.List.{List, map, ◌++◌}
-use Prim.Native.Nat.{ℕ, ◌+◌, ◌*◌, ◌<◌, ◌≤◌}
-use native.Mathlib.Nat.{add-zero}
+use Prim.Native.Nat.{ℕ, ◌+◌, ◌-◌, ◌<◌, ◌≤◌}
+use native.Mathlib.Nat.{le_refl}
 use native.Mathlib.Omega.{arith}
 use lib.IntN.{ℤ, pos}
-use lib.ListN.{length, get_or, take, drop, length-append, length-drop, length-map, take-append-drop, get_or-append, get_or-map}
+use lib.ListN.{length, length-set, get_or, set, take, drop, replicate, length-append, length-drop, length-map, take-append-drop, get_or-append, get_or-map}
 use lib.Seq.{take_at, ext_get_or}
+use borrow.Rule.Slice.PartMut.{put_mid}
 use Rattle.algebra.specs.declared.Entry.{Entry}
 use Rattle.algebra.specs.Entry.{entry, 𝟘}
 use Rattle.diagrams.specs.Diagram.{Node, branch, unused, code, ref_of, Store, holding}
-use Rattle.stores.specs.Columns.{Columns, columns, column, held, over, written, Begins, Holds, zeroed, wiped}
-use Rattle.stores.specs.Columns.{NodeColumns, NodesWritten, entry_of, entries_of, ValueColumns, Published}
-use Rattle.uniques.specs.UniqueTable.{listed, node_in, nodes_in, entry_in, values_in}
+use Rattle.stores.specs.Columns.{Columns, columns, column, held, over, written, Begins, Holds, wiped}
+use Rattle.stores.specs.Columns.{zeroed, SameNodes, NodeColumns, NodesWritten, entry_of, entries_of, ValueColumns, Published}
+use Rattle.uniques.specs.UniqueTable.{listed, node_in, nodes_in, value_in, values_in}
 use Rattle.uniques.proofs.Chains.{length_listed, get_d_listed, listed_agree}
-use Rattle.stores.proofs.Filling.{map_listed, listed_take, zeroed_column}
+use Rattle.stores.proofs.Filling.{filled, filled_none, filled_more, filled_over, map_listed, listed_take, part_zeroed, zeroed_column}
 use Rattle.diagrams.proofs.References.{code_ref_of, ref_of_code}
 
 -- ---- published
 
--- the numbers of the terminals, part by part
-module _ (vals : List ℤ) (used : ℕ) where
-  abbrev pub part_over : ℕ → List ℤ → List ℤ
-  part_over part column = over (listed used (λ j. get_or vals (4 * j + part) (pos 0))) column
+-- the first j terminals' numbers stand in the value columns with ', and past them what stood in the others, as do the nodes
+pub record Publishing (vals : List Entry) (C C' : Columns) (j : ℕ) : Type 0 where
+  pub of_a : C'.a ≡ filled (λ i. (value_in vals i).a) C.a j
+  pub of_b : C'.b ≡ filled (λ i. (value_in vals i).b) C.b j
+  pub of_c : C'.c ≡ filled (λ i. (value_in vals i).c) C.c j
+  pub of_d : C'.d ≡ filled (λ i. (value_in vals i).d) C.d j
+  -- the check finds by itself that the other three columns keep their lengths
+  pub long_d : length C'.d ≡ length C.d
+  pub nodes : SameNodes C C'
 
-  pub published : {a b c d a' b' c' d' : List ℤ} → a' ≡ part_over 0 a → b' ≡ part_over 1 b → c' ≡ part_over 2 c → d' ≡ part_over 3 d
-      → Published (values_in used vals) a b c d a' b' c' d'
-  published {a} {b} {c} {d} p q r s = record {
-    of_a = p ∙ ap (λ (l : List ℤ). over l a) (listed_agree used _ _ (λ j _. ap (λ (k : ℕ). get_or vals k (pos 0)) (add-zero (4 * j))) ∙ parts (λ x. x.a));
-    of_b = q ∙ ap (λ (l : List ℤ). over l b) (parts (λ x. x.b));
-    of_c = r ∙ ap (λ (l : List ℤ). over l c) (parts (λ x. x.c));
-    of_d = s ∙ ap (λ (l : List ℤ). over l d) (parts (λ x. x.d));
+module _ (vals : List Entry) (C : Columns) where
+  pub publishing_none : Publishing vals C C 0
+  publishing_none = record {
+    of_a = filled_none _ C.a;
+    of_b = filled_none _ C.b;
+    of_c = filled_none _ C.c;
+    of_d = filled_none _ C.d;
+    long_d = refl;
+    nodes = record { same_level = refl; same_low = refl; same_high = refl };
   }
-    where
-      parts : (f : Entry → ℤ) → listed used (λ j. f (entry_in vals j)) ≡ map f (values_in used vals)
-      parts f = sym (map_listed f used (entry_in vals))
 
--- nodes and values written are a store written
-pub store_written : {ns : List Node} {vs : List Entry} {level low high level' low' high' : List ℕ} {a b c d a' b' c' d' : List ℤ}
-    → NodesWritten ns level low high level' low' high' → Published vs a b c d a' b' c' d'
-    → columns level' low' high' a' b' c' d' ≡ written (holding ns vs) (columns level low high a b c d)
+  module _ {C' : Columns} {j : ℕ} (h : Publishing vals C C' j) where
+    pub publishing_next : {x y z w : ℤ} → ValueColumns C (j + 1)
+        → x ≡ (value_in vals j).a → y ≡ (value_in vals j).b → z ≡ (value_in vals j).c → w ≡ (value_in vals j).d
+        → Publishing vals C (columns C'.level C'.low C'.high (set C'.a j x) (set C'.b j y) (set C'.c j z) (set C'.d j w)) (j + 1)
+    publishing_next {w = w} fits p q r s = record {
+      of_a = ap₂ (λ (l : List ℤ) (n : ℤ). set l j n) h.of_a p ∙ filled_more (λ i. (value_in vals i).a) C.a j (omega (arith, fits.in_a));
+      of_b = ap₂ (λ (l : List ℤ) (n : ℤ). set l j n) h.of_b q ∙ filled_more (λ i. (value_in vals i).b) C.b j (omega (arith, fits.in_b));
+      of_c = ap₂ (λ (l : List ℤ) (n : ℤ). set l j n) h.of_c r ∙ filled_more (λ i. (value_in vals i).c) C.c j (omega (arith, fits.in_c));
+      of_d = ap₂ (λ (l : List ℤ) (n : ℤ). set l j n) h.of_d s ∙ filled_more (λ i. (value_in vals i).d) C.d j (omega (arith, fits.in_d));
+      long_d = length-set C'.d j w ∙ h.long_d;
+      nodes = record { same_level = h.nodes.same_level; same_low = h.nodes.same_low; same_high = h.nodes.same_high };
+    }
+
+    pub publishing_all : Published (values_in j vals) C C'
+    publishing_all = record {
+      of_a = h.of_a ∙ numbers (λ x. x.a) C.a;
+      of_b = h.of_b ∙ numbers (λ x. x.b) C.b;
+      of_c = h.of_c ∙ numbers (λ x. x.c) C.c;
+      of_d = h.of_d ∙ numbers (λ x. x.d) C.d;
+      nodes = h.nodes;
+    }
+      where
+        numbers : (f : Entry → ℤ) (l : List ℤ) → filled (λ i. f (value_in vals i)) l j ≡ over (map f (values_in j vals)) l
+        numbers f l = filled_over (λ i. f (value_in vals i)) l j ∙ ap (λ (m : List ℤ). over m l) (sym (map_listed f j (value_in vals)))
+
+-- values and then nodes written are a store written
+pub store_written : {ns : List Node} {vs : List Entry} {C C₁ C' : Columns} → Published vs C C₁ → NodesWritten ns C₁ C' → C' ≡ written (holding ns vs) C
 unfolding written
-store_written n v i = record {
-  level = n.of_level i;
-  low = n.of_low i;
-  high = n.of_high i;
-  a = v.of_a i;
-  b = v.of_b i;
-  c = v.of_c i;
-  d = v.of_d i;
-}
+store_written {ns} v n i = columns
+    (over_same (map (λ (m : Node). m.level) ns) n.of_level v.nodes.same_level i)
+    (over_same (map (λ (m : Node). code m.low) ns) n.of_low v.nodes.same_low i)
+    (over_same (map (λ (m : Node). code m.high) ns) n.of_high v.nodes.same_high i)
+    ((n.values.same_a ∙ v.of_a) i)
+    ((n.values.same_b ∙ v.of_b) i)
+    ((n.values.same_c ∙ v.of_c) i)
+    ((n.values.same_d ∙ v.of_d) i)
+  where
+    over_same : (m : List ℕ) {l l' l'' : List ℕ} → l'' ≡ over m l' → l' ≡ l → l'' ≡ over m l
+    over_same m is same = is ∙ ap (over m) same
 
 -- ---- wiped
 
-pub wipes : {nodes values : ℕ} {level low high level' low' high' : List ℕ} {a b c d a' b' c' d' : List ℤ}
-    → NodeColumns level low high nodes → ValueColumns a b c d values
-    → level' ≡ zeroed 0 nodes (length level) level → low' ≡ zeroed 0 nodes (length low) low → high' ≡ zeroed 0 nodes (length high) high
-    → a' ≡ zeroed (pos 0) values (length a) a → b' ≡ zeroed (pos 0) values (length b) b
-    → c' ≡ zeroed (pos 0) values (length c) c → d' ≡ zeroed (pos 0) values (length d) d
-    → columns level' low' high' a' b' c' d' ≡ wiped nodes values (columns level low high a b c d)
+-- a column whose part from a slot on was filled with 0
+pub part_wiped : {A : Type 0} (nought : A) (l : List A) (from : ℕ) {part : List A} → from ≤ length l
+    → part ≡ replicate (length (take (length l - from) (drop from l))) nought
+    → put_mid from (length l - from) l part ≡ column nought (length l) (take from l)
+part_wiped nought l from fits is = part_zeroed nought l from (length l) fits (le_refl (length l)) is ∙ zeroed_column nought l from fits
+
+-- ---- wiped
+
+pub wipes : {nodes values : ℕ} {C C' : Columns} → NodeColumns C nodes → ValueColumns C values
+    → C'.level ≡ zeroed 0 nodes (length C.level) C.level → C'.low ≡ zeroed 0 nodes (length C.low) C.low
+    → C'.high ≡ zeroed 0 nodes (length C.high) C.high
+    → C'.a ≡ zeroed (pos 0) values (length C.a) C.a → C'.b ≡ zeroed (pos 0) values (length C.b) C.b
+    → C'.c ≡ zeroed (pos 0) values (length C.c) C.c → C'.d ≡ zeroed (pos 0) values (length C.d) C.d
+    → C' ≡ wiped nodes values C
 unfolding wiped
-wipes {nodes} {values} {level} {low} {high} {a = a} {b = b} {c = c} {d = d} ns vs p q r s t u v i = record {
-  level = (p ∙ zeroed_column 0 level nodes ns.in_level) i;
-  low = (q ∙ zeroed_column 0 low nodes ns.in_low) i;
-  high = (r ∙ zeroed_column 0 high nodes ns.in_high) i;
-  a = (s ∙ zeroed_column (pos 0) a values vs.in_a) i;
-  b = (t ∙ zeroed_column (pos 0) b values vs.in_b) i;
-  c = (u ∙ zeroed_column (pos 0) c values vs.in_c) i;
-  d = (v ∙ zeroed_column (pos 0) d values vs.in_d) i;
+wipes {nodes} {values} {C} ns vs p q r s t u v i = record {
+  level = (p ∙ zeroed_column 0 C.level nodes ns.in_level) i;
+  low = (q ∙ zeroed_column 0 C.low nodes ns.in_low) i;
+  high = (r ∙ zeroed_column 0 C.high nodes ns.in_high) i;
+  a = (s ∙ zeroed_column (pos 0) C.a values vs.in_a) i;
+  b = (t ∙ zeroed_column (pos 0) C.b values vs.in_b) i;
+  c = (u ∙ zeroed_column (pos 0) C.c values vs.in_c) i;
+  d = (v ∙ zeroed_column (pos 0) C.d values vs.in_d) i;
 }
 
 -- ---- a store held
@@ -107,22 +145,25 @@ NodesLong N level low high = (length level ≡ N) × (length low ≡ N) × (leng
 abbrev ValuesLong : ℕ → List ℤ → List ℤ → List ℤ → List ℤ → Type 0
 ValuesLong L a b c d = (length a ≡ L) × (length b ≡ L) × (length c ≡ L) × (length d ≡ L)
 
--- the nodes that stand in columns and the terminals published are a store held
-pub table_holds : {N L : ℕ} (s : Store Entry) (level low high : List ℕ) (a b c d : List ℤ) {a' b' c' d' : List ℤ}
-    → NodesLong N level low high → nodes_in (length s.nodes) level low high ≡ s.nodes → length s.nodes ≤ N
-    → ValuesLong L a b c d → length s.values ≤ L → Published s.values a b c d a' b' c' d'
-    → Holds N L s (columns level low high a' b' c' d')
-table_holds s level low high a b c d (e, f, g) nodes few (p, q, r, t) room published =
-    let begins = begins_nodes s.nodes level low high nodes few in
+-- the nodes that stand in the columns and the terminals published are a store held
+pub table_holds : {N L : ℕ} (s : Store Entry) {C C' : Columns} → NodesLong N C.level C.low C.high
+    → nodes_in (length s.nodes) C.level C.low C.high ≡ s.nodes → length s.nodes ≤ N
+    → ValuesLong L C.a C.b C.c C.d → length s.values ≤ L → Published s.values C C' → Holds N L s C'
+table_holds {N} s {C} {C'} (e, f, g) nodes few (p, q, r, t) room published =
+    let begins = begins_nodes s.nodes C.level C.low C.high nodes few in
+    let kept = published.nodes in
     record {
-      of_level = begins (λ n. n.level) level e (λ i. refl);
-      of_low = begins (λ n. code n.low) low f (λ i. sym (code_ref_of (get_or low i 0)));
-      of_high = begins (λ n. code n.high) high g (λ i. sym (code_ref_of (get_or high i 0)));
-      of_a = begins_by (λ x. x.a) s.values a p room published.of_a;
-      of_b = begins_by (λ x. x.b) s.values b q room published.of_b;
-      of_c = begins_by (λ x. x.c) s.values c r room published.of_c;
-      of_d = begins_by (λ x. x.d) s.values d t room published.of_d;
+      of_level = stays (λ n. n.level) kept.same_level (begins (λ n. n.level) C.level e (λ i. refl));
+      of_low = stays (λ n. code n.low) kept.same_low (begins (λ n. code n.low) C.low f (λ i. sym (code_ref_of (get_or C.low i 0))));
+      of_high = stays (λ n. code n.high) kept.same_high (begins (λ n. code n.high) C.high g (λ i. sym (code_ref_of (get_or C.high i 0))));
+      of_a = begins_by (λ x. x.a) s.values C.a p room published.of_a;
+      of_b = begins_by (λ x. x.b) s.values C.b q room published.of_b;
+      of_c = begins_by (λ x. x.c) s.values C.c r room published.of_c;
+      of_d = begins_by (λ x. x.d) s.values C.d t room published.of_d;
     }
+  where
+    stays : (f : Node → ℕ) {l l' : List ℕ} → l' ≡ l → Begins f N s.nodes l → Begins f N s.nodes l'
+    stays f same begins = rw same begins
 
 -- so is a store written
 pub written_holds : {N L : ℕ} (s : Store Entry) (C : Columns) → NodesLong N C.level C.low C.high
@@ -191,7 +232,7 @@ module _ {N L : ℕ} (s : Store Entry) (C : Columns) (holds : Holds N L s C) whe
         ((ap ref_of low_held ∙ ref_of_code (get_or s.nodes i unused).low) t)
         ((ap ref_of high_held ∙ ref_of_code (get_or s.nodes i unused).high) t)
 
-  pub entry_held : (j : ℕ) → j < length s.values → entry_of C.a C.b C.c C.d j ≡ get_or s.values j 𝟘
+  pub entry_held : (j : ℕ) → j < length s.values → entry_of C j ≡ get_or s.values j 𝟘
   unfolding 𝟘
   entry_held j h = λ t. entry
       (begins_at (λ (x : Entry). x.a) s.values C.a 𝟘 holds.of_a j h t)
@@ -202,5 +243,5 @@ module _ {N L : ℕ} (s : Store Entry) (C : Columns) (holds : Holds N L s C) whe
   pub nodes_held : nodes_in (length s.nodes) C.level C.low C.high ≡ s.nodes
   nodes_held = listed_all unused s.nodes (node_in C.level C.low C.high) node_held
 
-  pub entries_held : entries_of C.a C.b C.c C.d (length s.values) ≡ s.values
-  entries_held = listed_all 𝟘 s.values (entry_of C.a C.b C.c C.d) entry_held
+  pub entries_held : entries_of C (length s.values) ≡ s.values
+  entries_held = listed_all 𝟘 s.values (entry_of C) entry_held

@@ -5,13 +5,14 @@ use mathlib.Core.Bool.{Bool, true, false}
 use mathlib.Core.List.{List, [], ◌∷◌}
 use Prim.Native.Nat.{ℕ, zero, suc, ◌*◌, ◌<◌}
 use native.Mathlib.Omega.{arith}
+use Rattle.std.proofs.Common.{Some, None}
 use borrow.Author.Tests.{lt-ltb, le-ltb}
 use lib.ListN.{length, get_or}
 use Rattle.algebra.specs.declared.Entry.{Entry}
 use Rattle.algebra.specs.Entry.{𝟘}
 use Rattle.diagrams.specs.Diagram.{slot, same_entry}
 use Rattle.stores.specs.Columns.{zero_ref}
-use Rattle.uniques.specs.UniqueTable.{full, listed}
+use Rattle.uniques.specs.UniqueTable.{listed}
 use Rattle.uniques.proofs.Chains.{length_listed, get_d_listed}
 
 module _ {A : Type 0} (same : A → A → Bool) (x blank : A) where
@@ -26,13 +27,13 @@ module _ {A : Type 0} (same : A → A → Bool) (x blank : A) where
   slot_missed (y ∷ l) before = rw (before 0 (omega arith)) (ap suc (slot_missed l (λ k less. before (suc k) (omega arith))))
 
 module _ (used : ℕ) (at : ℕ → Entry) where
-  pub zero_met : (j : ℕ) → j < used → same_entry (at j) 𝟘 ≡ true → ((k : ℕ) → k < j → same_entry (at k) 𝟘 ≡ false) → 2 * j ≡ zero_ref (listed used at)
+  pub zero_met : (j : ℕ) → j < used → same_entry (at j) 𝟘 ≡ true → ((k : ℕ) → k < j → same_entry (at k) 𝟘 ≡ false) → Some (2 * j) ≡ zero_ref (listed used at)
   zero_met j below met before =
       let here : slot same_entry 𝟘 (listed used at) ≡ j = slot_met same_entry 𝟘 𝟘 (listed used at) j (omega (arith, length_listed used at))
       (rw (get_d_listed used at 𝟘 j below) met) (λ k less. rw (get_d_listed used at 𝟘 k (omega arith)) (before k less)) in
       rw (here, lt-ltb j (length (listed used at)) (omega (arith, length_listed used at)))
 
-  pub zero_missed : ((k : ℕ) → k < used → same_entry (at k) 𝟘 ≡ false) → full ≡ zero_ref (listed used at)
+  pub zero_missed : ((k : ℕ) → k < used → same_entry (at k) 𝟘 ≡ false) → None ≡ zero_ref (listed used at)
   zero_missed before =
       let nowhere : slot same_entry 𝟘 (listed used at) ≡ length (listed used at) = slot_missed same_entry 𝟘 𝟘 (listed used at)
       (λ k less. let less : k < used = omega (arith, length_listed used at) in rw (get_d_listed used at 𝟘 k less) (before k less)) in

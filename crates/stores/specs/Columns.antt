@@ -1,10 +1,12 @@
 -- A store in its lent columns. Definitions only; their laws are in proofs/Columns.antt, proofs/Filling.antt
 -- and proofs/Stores.antt.
-use Rattle.std.specs.Prelude.{◌≡◌, cond, List, ◌++◌, map, ℕ, ◌-◌, ◌*◌, ◌≤◌, ltb, ℤ, pos, length, get_or, take, drop, replicate}
+use Rattle.std.specs.Prelude.{◌≡◌, cond, List, ◌++◌, map, Option, Some, None, ℕ, ◌-◌, ◌*◌, ◌≤◌, ltb, ℤ, pos, length, get_or, take, drop, replicate}
 use Rattle.algebra.specs.declared.Entry.{Entry}
 use Rattle.algebra.specs.Entry.{entry, 𝟘}
 use Rattle.diagrams.specs.Diagram.{Node, code, Store, slot, same_entry}
-use Rattle.uniques.specs.UniqueTable.{full, listed}
+use Rattle.uniques.specs.UniqueTable.{listed}
+use Rattle.stores.specs.declared.Store.{Store as LentStore}
+use Rattle.stores.specs.declared.View.{View}
 
 -- "Each has three node columns (level, low, high; unsigned 32-bit) of one length N .. and four value columns (a, b, c, d;
 -- signed 32-bit) of one length L"
@@ -19,6 +21,31 @@ pub record Columns : Type 0 where
 
 abbrev pub columns : List ℕ → List ℕ → List ℕ → List ℤ → List ℤ → List ℤ → List ℤ → Columns
 columns level low high a b c d = record { level = level; low = low; high = high; a = a; b = b; c = c; d = d }
+
+-- what stands in the lent columns
+abbrev pub columns_of : LentStore → Columns
+columns_of s = columns s.level.now s.low.now s.high.now s.a.now s.b.now s.c.now s.d.now
+
+-- the same, read only
+abbrev pub viewed : View → Columns
+viewed v = columns v.level.now v.low.now v.high.now v.a.now v.b.now v.c.now v.d.now
+
+-- the store with ' lends the columns that the other does, each as long as it was, whatever stands in them now
+pub record SameColumns (s s' : LentStore) : Type 0 where
+  pub level : s'.level.ghost_name ≡ s.level.ghost_name
+  pub low : s'.low.ghost_name ≡ s.low.ghost_name
+  pub high : s'.high.ghost_name ≡ s.high.ghost_name
+  pub a : s'.a.ghost_name ≡ s.a.ghost_name
+  pub b : s'.b.ghost_name ≡ s.b.ghost_name
+  pub c : s'.c.ghost_name ≡ s.c.ghost_name
+  pub d : s'.d.ghost_name ≡ s.d.ghost_name
+  pub level_long : length s'.level.now ≡ length s.level.now
+  pub low_long : length s'.low.now ≡ length s.low.now
+  pub high_long : length s'.high.now ≡ length s.high.now
+  pub a_long : length s'.a.now ≡ length s.a.now
+  pub b_long : length s'.b.now ≡ length s.b.now
+  pub c_long : length s'.c.now ≡ length s.c.now
+  pub d_long : length s'.d.now ≡ length s.d.now
 
 -- a column of a length, "with unused slots 0"
 abbrev pub column : {A : Type 0} → A → ℕ → List A → List A
@@ -96,42 +123,60 @@ wiped nodes values C = record {
   d = column (pos 0) (length C.d) (take values C.d);
 }
 
--- the first slots of the node columns are there
-pub record NodeColumns (level low high : List ℕ) (used : ℕ) : Type 0 where
-  pub in_level : used ≤ length level
-  pub in_low : used ≤ length low
-  pub in_high : used ≤ length high
+-- ---- the node columns
 
--- what stands in the node columns with ': these nodes, and past them what stood in the others
-pub record NodesWritten (ns : List Node) (level low high level' low' high' : List ℕ) : Type 0 where
-  pub of_level : level' ≡ over (map (λ (n : Node). n.level) ns) level
-  pub of_low : low' ≡ over (map (λ (n : Node). code n.low) ns) low
-  pub of_high : high' ≡ over (map (λ (n : Node). code n.high) ns) high
+-- their first slots are there
+pub record NodeColumns (C : Columns) (used : ℕ) : Type 0 where
+  pub in_level : used ≤ length C.level
+  pub in_low : used ≤ length C.low
+  pub in_high : used ≤ length C.high
+
+-- in the columns with ' they are as in the others
+pub record SameNodes (C C' : Columns) : Type 0 where
+  pub same_level : C'.level ≡ C.level
+  pub same_low : C'.low ≡ C.low
+  pub same_high : C'.high ≡ C.high
 
 -- ---- the value columns
 
-module _ (a b c d : List ℤ) where
-  abbrev pub entry_of : ℕ → Entry
-  entry_of j = entry (get_or a j (pos 0)) (get_or b j (pos 0)) (get_or c j (pos 0)) (get_or d j (pos 0))
+-- their first slots are there
+pub record ValueColumns (C : Columns) (used : ℕ) : Type 0 where
+  pub in_a : used ≤ length C.a
+  pub in_b : used ≤ length C.b
+  pub in_c : used ≤ length C.c
+  pub in_d : used ≤ length C.d
 
-  -- the entries of the first slots
-  abbrev pub entries_of : ℕ → List Entry
-  entries_of used = listed used entry_of
+-- in the columns with ' they are as in the others
+pub record SameValues (C C' : Columns) : Type 0 where
+  pub same_a : C'.a ≡ C.a
+  pub same_b : C'.b ≡ C.b
+  pub same_c : C'.c ≡ C.c
+  pub same_d : C'.d ≡ C.d
 
-  -- they are there
-  pub record ValueColumns (used : ℕ) : Type 0 where
-    pub in_a : used ≤ length a
-    pub in_b : used ≤ length b
-    pub in_c : used ≤ length c
-    pub in_d : used ≤ length d
+abbrev pub entry_of : Columns → ℕ → Entry
+entry_of C j = entry (get_or C.a j (pos 0)) (get_or C.b j (pos 0)) (get_or C.c j (pos 0)) (get_or C.d j (pos 0))
 
--- what stands in the value columns with ': these entries, and past them what stood in the others
-pub record Published (vs : List Entry) (a b c d a' b' c' d' : List ℤ) : Type 0 where
-  pub of_a : a' ≡ over (map (λ (x : Entry). x.a) vs) a
-  pub of_b : b' ≡ over (map (λ (x : Entry). x.b) vs) b
-  pub of_c : c' ≡ over (map (λ (x : Entry). x.c) vs) c
-  pub of_d : d' ≡ over (map (λ (x : Entry). x.d) vs) d
+-- the entries of the first slots
+abbrev pub entries_of : Columns → ℕ → List Entry
+entries_of C used = listed used (entry_of C)
+
+-- ---- what is written
+
+-- what stands in the columns with ': these nodes, and past them what stood in the others, as do the values
+pub record NodesWritten (ns : List Node) (C C' : Columns) : Type 0 where
+  pub of_level : C'.level ≡ over (map (λ (n : Node). n.level) ns) C.level
+  pub of_low : C'.low ≡ over (map (λ (n : Node). code n.low) ns) C.low
+  pub of_high : C'.high ≡ over (map (λ (n : Node). code n.high) ns) C.high
+  pub values : SameValues C C'
+
+-- these entries, and past them what stood in the others, as do the nodes
+pub record Published (vs : List Entry) (C C' : Columns) : Type 0 where
+  pub of_a : C'.a ≡ over (map (λ (x : Entry). x.a) vs) C.a
+  pub of_b : C'.b ≡ over (map (λ (x : Entry). x.b) vs) C.b
+  pub of_c : C'.c ≡ over (map (λ (x : Entry). x.c) vs) C.c
+  pub of_d : C'.d ≡ over (map (λ (x : Entry). x.d) vs) C.d
+  pub nodes : SameNodes C C'
 
 -- the reference of zero among entries, if it is there
-abbrev pub zero_ref : List Entry → ℕ
-zero_ref vs = cond (ltb (slot same_entry 𝟘 vs) (length vs)) (2 * slot same_entry 𝟘 vs) full
+abbrev pub zero_ref : List Entry → Option ℕ
+zero_ref vs = cond (ltb (slot same_entry 𝟘 vs) (length vs)) (Some (2 * slot same_entry 𝟘 vs)) None

@@ -3,8 +3,9 @@
 use mathlib.Core.Path.{◌≡◌, refl, sym, ◌∙◌, ap, ◌≡⟨◌⟩◌, ◌∎}
 use mathlib.Core.Bool.{Bool, true, false, cond, ◌&&◌}
 use mathlib.Core.List.{List}
+use Rattle.std.specs.Prelude.{Some, None}
 use mathlib.Core.Logic.{◌≢◌, ◌⊎◌, inl, inr}
-use Prim.Native.Nat.{ℕ, ◌+◌, ◌-◌, ◌*◌, ◌<◌, ◌≤◌}
+use Prim.Native.Nat.{ℕ, ◌+◌, ◌*◌, ◌<◌, ◌≤◌}
 use native.Mathlib.Omega.{arith}
 use lib.Dec.{eqb, ltb, lit<}
 use lib.ListN.{length, get_or, set, drop, replicate, length-append, length-replicate, length-drop, length-set, get_or-replicate, get_or-append}
@@ -12,8 +13,10 @@ use lib.Seq.{get_or-set_same, get_or-set_other, lt-length-set}
 use borrow.Author.Tests.{ltb-true, ltb-false, eqb-true, eqb-false, lt-ltb, le-ltb, eq-eqb, ne_eqb}
 use Rattle.transitions.specs.declared.State.{State}
 use Rattle.transitions.specs.Plan.{Plan}
-use Rattle.tables.specs.Table.{slot_of, table_end, unsettled, told, kept_as, entered, recalled_at, recalled, noted_at, noted, cleared}
-use Rattle.tables.specs.Table.{TableSizes, TableFits, InTable, AtSlot, AllRight}
+use Rattle.transitions.specs.Next.{mode_code}
+use Rattle.transitions.proofs.Codes.{mode_code_once}
+use Rattle.tables.specs.Table.{slot_of, table_end, unkept, told, kept_as, entered, recalled, noted, cleared}
+use Rattle.tables.specs.Table.{TableSizes, TableFits, InTable, AllRight}
 use Rattle.tables.proofs.Slots.{alone_same, entry_slot, entry_room, same_state}
 
 -- ---- clearing
@@ -40,47 +43,20 @@ unfolding recalled
 recalled_number plan memo σ below = rw (lt-ltb _ _ below)
 
 recalled_entry : (plan : Plan) (memo : List ℕ) (σ : State) → 3 * plan.span ≤ slot_of plan σ →
-    recalled plan memo σ ≡ cond (entered memo (slot_of plan σ) σ) (get_or memo (slot_of plan σ + 3) 0) unsettled
+    recalled plan memo σ ≡ cond (entered memo (slot_of plan σ) σ) (Some (get_or memo (slot_of plan σ + 3) 0)) None
 unfolding recalled
 recalled_entry plan memo σ past = rw (le-ltb _ _ past)
 
 -- in a table of zeros nothing is known
 pub recalled_zeros : (plan : Plan) (memo : List ℕ) (σ : State) → TableSizes plan → InTable plan σ →
-    ((i : ℕ) → i < table_end plan → get_or memo i 0 ≡ 0) → recalled plan memo σ ≡ unsettled
+    ((i : ℕ) → i < table_end plan → get_or memo i 0 ≡ 0) → recalled plan memo σ ≡ None
 recalled_zeros plan memo σ sizes place zeros = by_side (side_of plan σ)
   where
-    by_side : (slot_of plan σ < 3 * plan.span) ⊎ (3 * plan.span ≤ slot_of plan σ) → recalled plan memo σ ≡ unsettled
+    by_side : (slot_of plan σ < 3 * plan.span) ⊎ (3 * plan.span ≤ slot_of plan σ) → recalled plan memo σ ≡ None
     by_side (inl below) = recalled_number plan memo σ below ∙ ap told (zeros (slot_of plan σ) (omega arith))
     by_side (inr past) =
-        let no_mode : eqb 0 (σ.mode + 1) ≡ false = ne_eqb 0 (σ.mode + 1) (omega arith) in
+        let no_mode : eqb 0 (mode_code σ.mode + 1) ≡ false = ne_eqb 0 (mode_code σ.mode + 1) (omega arith) in
         recalled_entry plan memo σ past ∙ rw (zeros (slot_of plan σ + 2) (omega (arith, entry_room plan σ sizes place past)), no_mode)
-
--- ---- a look at a state's slot, test by test
-
-module _ {plan : Plan} {memo : List ℕ} {at : ℕ} {σ : State} (s : AtSlot plan memo at σ) where
-  recalled_as : recalled_at plan memo at σ ≡ recalled plan memo σ
-  unfolding recalled
-  recalled_as = ap (λ (i : ℕ). recalled_at plan memo i σ) s.slot
-
-  pub number_none : at < 3 * plan.span → get_or memo at 0 ≡ 0 → unsettled ≡ recalled plan memo σ
-  number_none below none = rw (← recalled_as, lt-ltb _ _ below, eq-eqb _ _ none)
-
-  pub number_told : at < 3 * plan.span → (get_or memo at 0 ≡ 0 → ⊥) → get_or memo at 0 - 1 ≡ recalled plan memo σ
-  number_told below some = rw (← recalled_as, lt-ltb _ _ below, ne_eqb _ _ some)
-
-  pub entry_of_mode : 3 * plan.span ≤ at → (get_or memo (at + 2) 0 ≡ σ.mode + 1 → ⊥) → unsettled ≡ recalled plan memo σ
-  entry_of_mode past other = rw (← recalled_as, le-ltb _ _ past, ne_eqb _ _ other)
-
-  pub entry_of_x : 3 * plan.span ≤ at → get_or memo (at + 2) 0 ≡ σ.mode + 1 → (get_or memo at 0 ≡ σ.x → ⊥) → unsettled ≡ recalled plan memo σ
-  entry_of_x past mode other = rw (← recalled_as, le-ltb _ _ past, eq-eqb _ _ mode, ne_eqb _ _ other)
-
-  pub entry_of_y : 3 * plan.span ≤ at → get_or memo (at + 2) 0 ≡ σ.mode + 1 → get_or memo at 0 ≡ σ.x → (get_or memo (at + 1) 0 ≡ σ.y → ⊥) →
-      unsettled ≡ recalled plan memo σ
-  entry_of_y past mode x other = rw (← recalled_as, le-ltb _ _ past, eq-eqb _ _ mode, eq-eqb _ _ x, ne_eqb _ _ other)
-
-  pub entry_found : 3 * plan.span ≤ at → get_or memo (at + 2) 0 ≡ σ.mode + 1 → get_or memo at 0 ≡ σ.x → get_or memo (at + 1) 0 ≡ σ.y →
-      get_or memo (at + 3) 0 ≡ recalled plan memo σ
-  entry_found past mode x y = rw (← recalled_as, le-ltb _ _ past, eq-eqb _ _ mode, eq-eqb _ _ x, eq-eqb _ _ y)
 
 -- ---- a state's own numbers
 
@@ -116,7 +92,7 @@ recalled_by_own plan memo memo' τ agree = by_side (side_of plan τ)
 
 -- x, y, the mode and one more, and the answer, written at a place
 abbrev written : List ℕ → ℕ → State → ℕ → List ℕ
-written memo at σ answer = set (set (set (set memo at σ.x) (at + 1) σ.y) (at + 2) (σ.mode + 1)) (at + 3) answer
+written memo at σ answer = set (set (set (set memo at σ.x) (at + 1) σ.y) (at + 2) (mode_code σ.mode + 1)) (at + 3) answer
 
 -- the two ways of noting
 data Noting (plan : Plan) (memo : List ℕ) (σ : State) (answer : ℕ) : Type 0 where
@@ -137,21 +113,6 @@ length_noted plan memo σ answer = by_way (noted_by plan memo σ answer)
     by_way : Noting plan memo σ answer → length (noted plan memo σ answer) ≡ length memo
     by_way (in_number below is) = ap length is ∙ simp length-set
     by_way (in_entry past is) = ap length is ∙ simp length-set
-
--- at a state's slot, test by test
-module _ {plan : Plan} {memo : List ℕ} {at : ℕ} {σ : State} (s : AtSlot plan memo at σ) (answer : ℕ) where
-  noted_as : noted_at plan memo at σ answer ≡ noted plan memo σ answer
-  unfolding noted
-  noted_as = ap (λ (i : ℕ). noted_at plan memo i σ answer) s.slot
-
-  pub number_noted : at < 3 * plan.span → answer < unsettled → set memo at (answer + 1) ≡ noted plan memo σ answer
-  number_noted below small = rw (← noted_as, lt-ltb _ _ below, lt-ltb _ _ small)
-
-  pub nothing_noted : at < 3 * plan.span → unsettled ≤ answer → set memo at 0 ≡ noted plan memo σ answer
-  nothing_noted below large = rw (← noted_as, lt-ltb _ _ below, le-ltb _ _ large)
-
-  pub entry_noted : 3 * plan.span ≤ at → written memo at σ answer ≡ noted plan memo σ answer
-  entry_noted past = rw (← noted_as, le-ltb _ _ past)
 
 -- only the state's own numbers change
 noted_other : (plan : Plan) (memo : List ℕ) (σ : State) (answer i : ℕ) → (Owns plan σ i → ⊥) → get_or (noted plan memo σ answer) i 0 ≡ get_or memo i 0
@@ -184,7 +145,7 @@ module _ (memo : List ℕ) (at : ℕ) (σ : State) (answer : ℕ) (room : at + 4
       let inside : at + 1 < length memo = omega arith in
       simp (get_or-set_other, get_or-set_same, lt-length-set)
 
-  written_mode : get_or (written memo at σ answer) (at + 2) 0 ≡ σ.mode + 1
+  written_mode : get_or (written memo at σ answer) (at + 2) 0 ≡ mode_code σ.mode + 1
   written_mode =
       let r : at + 2 ≢ at + 3 = omega arith in
       let inside : at + 2 < length memo = omega arith in
@@ -197,18 +158,18 @@ module _ (memo : List ℕ) (at : ℕ) (σ : State) (answer : ℕ) (room : at + 4
 
 -- what is recalled of τ after an answer was noted for σ: nothing, what was recalled before, or that answer if τ is σ
 pub data AfterNoting (plan : Plan) (memo : List ℕ) (σ : State) (answer : ℕ) (τ : State) : Type 0 where
-  lost : recalled plan (noted plan memo σ answer) τ ≡ unsettled → AfterNoting plan memo σ answer τ
+  lost : recalled plan (noted plan memo σ answer) τ ≡ None → AfterNoting plan memo σ answer τ
   kept : recalled plan (noted plan memo σ answer) τ ≡ recalled plan memo τ → AfterNoting plan memo σ answer τ
-  fresh : τ ≡ σ → recalled plan (noted plan memo σ answer) τ ≡ answer → AfterNoting plan memo σ answer τ
+  fresh : τ ≡ σ → recalled plan (noted plan memo σ answer) τ ≡ Some answer → AfterNoting plan memo σ answer τ
 
 -- what a region tells of an answer kept there: that answer, if it says that anything is known
-told_known : (answer : ℕ) → answer < unsettled → told (kept_as answer) ≡ answer
-told_known answer known = rw (lt-ltb answer unsettled known, ne_eqb (answer + 1) 0 (omega arith)) (omega arith)
+told_known : (answer : ℕ) → answer < unkept → told (kept_as answer) ≡ Some answer
+told_known answer known = rw (lt-ltb answer unkept known, ne_eqb (answer + 1) 0 (omega arith)) (ap Some (omega arith))
 
-told_kept : (answer : ℕ) → (told (kept_as answer) ≡ unsettled) ⊎ (told (kept_as answer) ≡ answer)
-told_kept answer = by_test (ltb answer unsettled) refl
+told_kept : (answer : ℕ) → (told (kept_as answer) ≡ None) ⊎ (told (kept_as answer) ≡ Some answer)
+told_kept answer = by_test (ltb answer unkept) refl
   where
-    by_test : (b : Bool) → ltb answer unsettled ≡ b → (told (kept_as answer) ≡ unsettled) ⊎ (told (kept_as answer) ≡ answer)
+    by_test : (b : Bool) → ltb answer unkept ≡ b → (told (kept_as answer) ≡ None) ⊎ (told (kept_as answer) ≡ Some answer)
     by_test true e = inr (told_known answer (ltb-true _ _ e))
     by_test false e = inl (rw e)
 
@@ -232,7 +193,7 @@ module _ (plan : Plan) (memo : List ℕ) (σ τ : State) (answer : ℕ) (fits : 
 
   entry_recalled : slot_of plan τ ≡ slot_of plan σ → 3 * plan.span ≤ slot_of plan σ →
       recalled plan (written memo (slot_of plan σ) σ answer) τ ≡
-      cond (eqb (σ.mode + 1) (τ.mode + 1) && (eqb σ.x τ.x && eqb σ.y τ.y)) answer unsettled
+      cond (eqb (mode_code σ.mode + 1) (mode_code τ.mode + 1) && (eqb σ.x τ.x && eqb σ.y τ.y)) (Some answer) None
   entry_recalled same past =
       let at = slot_of plan σ in
       let room : at + 4 ≤ length memo = omega (arith, fits.room, entry_room plan σ fits.sizes in_σ past) in
@@ -245,21 +206,23 @@ module _ (plan : Plan) (memo : List ℕ) (σ τ : State) (answer : ℕ) (fits : 
       now_told : recalled plan (noted plan memo σ answer) τ ≡ told (kept_as answer)
       now_told = ap (λ (l : List ℕ). recalled plan l τ) is ∙ number_recalled same below
 
-      by_told : (told (kept_as answer) ≡ unsettled) ⊎ (told (kept_as answer) ≡ answer) → AfterNoting plan memo σ answer τ
+      by_told : (told (kept_as answer) ≡ None) ⊎ (told (kept_as answer) ≡ Some answer) → AfterNoting plan memo σ answer τ
       by_told (inl none) = lost (now_told ∙ none)
       by_told (inr some) = fresh (alone_same plan σ τ fits.sizes in_σ in_τ below same) (now_told ∙ some)
-  recalled_same same (in_entry past is) = by_tests (eqb (σ.mode + 1) (τ.mode + 1)) (eqb σ.x τ.x) (eqb σ.y τ.y) refl refl refl
+  recalled_same same (in_entry past is) = by_tests (eqb (mode_code σ.mode + 1) (mode_code τ.mode + 1)) (eqb σ.x τ.x) (eqb σ.y τ.y) refl refl refl
     where
-      now_is : recalled plan (noted plan memo σ answer) τ ≡ cond (eqb (σ.mode + 1) (τ.mode + 1) && (eqb σ.x τ.x && eqb σ.y τ.y)) answer unsettled
+      now_is : recalled plan (noted plan memo σ answer) τ
+          ≡ cond (eqb (mode_code σ.mode + 1) (mode_code τ.mode + 1) && (eqb σ.x τ.x && eqb σ.y τ.y)) (Some answer) None
       now_is = ap (λ (l : List ℕ). recalled plan l τ) is ∙ entry_recalled same past
 
-      by_tests : (p q r : Bool) → eqb (σ.mode + 1) (τ.mode + 1) ≡ p → eqb σ.x τ.x ≡ q → eqb σ.y τ.y ≡ r → AfterNoting plan memo σ answer τ
+      by_tests : (p q r : Bool) → eqb (mode_code σ.mode + 1) (mode_code τ.mode + 1) ≡ p → eqb σ.x τ.x ≡ q → eqb σ.y τ.y ≡ r → AfterNoting plan memo σ answer τ
       by_tests false q r e f g = lost (now_is ∙ rw e)
       by_tests true false r e f g = lost (now_is ∙ rw (e, f))
       by_tests true true false e f g = lost (now_is ∙ rw (e, f, g))
       by_tests true true true e f g =
-          let modes : σ.mode + 1 ≡ τ.mode + 1 = eqb-true _ _ e in
-          fresh (same_state (sym (eqb-true _ _ f)) (sym (eqb-true _ _ g)) (omega arith)) (now_is ∙ rw (e, f, g))
+          let numbers : mode_code σ.mode + 1 ≡ mode_code τ.mode + 1 = eqb-true _ _ e in
+          let modes : τ.mode ≡ σ.mode = mode_code_once τ.mode σ.mode in_τ.coded in_σ.coded (omega arith) in
+          fresh (same_state (sym (eqb-true _ _ f)) (sym (eqb-true _ _ g)) modes) (now_is ∙ rw (e, f, g))
 
   pub recalled_noted : AfterNoting plan memo σ answer τ
   recalled_noted = by_test (eqb (slot_of plan τ) (slot_of plan σ)) refl
@@ -269,40 +232,44 @@ module _ (plan : Plan) (memo : List ℕ) (σ τ : State) (answer : ℕ) (fits : 
       by_test false e = kept (recalled_apart (eqb-false _ _ e))
 
 -- every outcome is kept, want of room like any reference: what was noted last of a state is recalled
-pub noted_recalled : (plan : Plan) (memo : List ℕ) (σ : State) (answer : ℕ) → TableFits plan memo → InTable plan σ → answer < unsettled →
-    recalled plan (noted plan memo σ answer) σ ≡ answer
+pub noted_recalled : (plan : Plan) (memo : List ℕ) (σ : State) (answer : ℕ) → TableFits plan memo → InTable plan σ → answer < unkept →
+    recalled plan (noted plan memo σ answer) σ ≡ Some answer
 noted_recalled plan memo σ answer fits in_σ known = by_way (noted_by plan memo σ answer)
   where
-    by_way : Noting plan memo σ answer → recalled plan (noted plan memo σ answer) σ ≡ answer
+    by_way : Noting plan memo σ answer → recalled plan (noted plan memo σ answer) σ ≡ Some answer
     by_way (in_number below is) =
         ap (λ (l : List ℕ). recalled plan l σ) is ∙ number_recalled plan memo σ σ answer fits in_σ in_σ refl below ∙ told_known answer known
     by_way (in_entry past is) =
         ap (λ (l : List ℕ). recalled plan l σ) is ∙ entry_recalled plan memo σ σ answer fits in_σ in_σ refl past ∙
-        rw (eq-eqb (σ.mode + 1) (σ.mode + 1) refl, eq-eqb σ.x σ.x refl, eq-eqb σ.y σ.y refl)
+        rw (eq-eqb (mode_code σ.mode + 1) (mode_code σ.mode + 1) refl, eq-eqb σ.x σ.x refl, eq-eqb σ.y σ.y refl)
 
 -- ---- every answer that is recalled is right
+
+none_some : {a : ℕ} → None ≡ Some a → ⊥
+none_some e = cc
 
 pub all_right_cleared : (Right : State → ℕ → Type 0) (plan : Plan) (memo : List ℕ) (to : ℕ) → TableSizes plan → table_end plan ≤ to →
     AllRight Right plan (cleared to memo)
 all_right_cleared Right plan memo to sizes far = record {
-  right = λ τ in_τ settled. absurd (settled (recalled_zeros plan (cleared to memo) τ sizes in_τ (λ i lt. cleared_zero to memo i (omega arith))));
+  right = λ τ in_τ found is.
+      absurd (none_some (sym (recalled_zeros plan (cleared to memo) τ sizes in_τ (λ i lt. cleared_zero to memo i (omega arith))) ∙ is));
 }
 
 pub all_right_noted : (Right : State → ℕ → Type 0) (plan : Plan) (memo : List ℕ) (σ : State) (answer : ℕ) → TableFits plan memo → InTable plan σ →
     AllRight Right plan memo → Right σ answer → AllRight Right plan (noted plan memo σ answer)
 all_right_noted Right plan memo σ answer fits in_σ known found = record {
-  right = λ τ in_τ settled. by_case τ in_τ settled (recalled_noted plan memo σ τ answer fits in_σ in_τ);
+  right = λ τ in_τ a told. by_case τ in_τ a told (recalled_noted plan memo σ τ answer fits in_σ in_τ);
 }
   where
-    by_case : (τ : State) → InTable plan τ → recalled plan (noted plan memo σ answer) τ ≢ unsettled → AfterNoting plan memo σ answer τ →
-        Right τ (recalled plan (noted plan memo σ answer) τ)
-    by_case τ in_τ settled (lost is) = absurd (settled is)
-    by_case τ in_τ settled (kept is) = rw is (known.right τ in_τ (λ un. settled (is ∙ un)))
-    by_case τ in_τ settled (fresh same is) = rw (is, same) found
+    by_case : (τ : State) → InTable plan τ → (a : ℕ) → recalled plan (noted plan memo σ answer) τ ≡ Some a → AfterNoting plan memo σ answer τ →
+        Right τ a
+    by_case τ in_τ a told (lost is) = absurd (none_some (sym is ∙ told))
+    by_case τ in_τ a told (kept is) = known.right τ in_τ a (sym is ∙ told)
+    by_case τ in_τ a told (fresh same is) = let one : answer ≡ a = cc in rw (same, ← one) found
 
 pub all_right_weaken : (Right Right' : State → ℕ → Type 0) (plan : Plan) (memo : List ℕ) → ((σ : State) (answer : ℕ) → Right σ answer → Right' σ answer) →
     AllRight Right plan memo → AllRight Right' plan memo
-all_right_weaken Right Right' plan memo weaken known = record { right = λ σ in_σ settled. weaken σ _ (known.right σ in_σ settled) }
+all_right_weaken Right Right' plan memo weaken known = record { right = λ σ in_σ a told. weaken σ a (known.right σ in_σ a told) }
 
 -- ---- the table goes on fitting
 

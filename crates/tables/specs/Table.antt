@@ -1,13 +1,16 @@
 -- The computed table of a step's walk: which slot a state has, what is recalled there, what noting an answer changes.
 -- Definitions only. The paper knows no such table: it spares a walk that was made before, and what a step makes is the same without it.
-use Rattle.std.specs.Prelude.{Bool, cond, ◌&&◌, List, ◌++◌, ◌≢◌, ◌≡◌, ℕ, zero, suc, ◌+◌, ◌-◌, ◌*◌, ◌/◌, ◌%◌, ◌<◌, ◌≤◌, min, eqb, ltb, length, get_or, set, drop, replicate}
+use Rattle.std.specs.Prelude.{Bool, cond, ◌&&◌, List, ◌++◌, ◌≡◌, ℕ, zero, suc, ◌+◌, ◌-◌, ◌*◌, ◌/◌, ◌%◌, ◌<◌, ◌≤◌, min}
+use Rattle.std.specs.Prelude.{eqb, ltb, length, get_or, set, drop, replicate}
+use Rattle.std.specs.Prelude.{Option, Some, None}
 use Rattle.transitions.specs.declared.State.{State}
 use Rattle.transitions.specs.Plan.{Plan}
+use Rattle.transitions.specs.Next.{mode_code, Coded, Once}
 
 -- ---- the slot of a state
 
 -- Three regions hold one number for each reference: those of the modes that the gate's two phases leave, and of a gate that
--- has yet to act. All other modes share the entries after them.
+-- has yet to act. All other modes share the entries after them. A mode is meant by its number.
 abbrev pub region : Plan → ℕ → ℕ
 region plan mode = cond (eqb mode plan.phases.zero) 0 (cond (eqb mode plan.phases.one) 1 (cond (eqb mode 16) 2 3))
 
@@ -17,8 +20,9 @@ bucket slots x y mode =
 
 unfoldable pub slot_of : Plan → State → ℕ
 slot_of plan σ =
-    let r = region plan σ.mode in
-    cond (ltb r 3) (r * plan.span + σ.x) (3 * plan.span + 4 * bucket plan.slots σ.x σ.y σ.mode)
+    let mode = mode_code σ.mode in
+    let r = region plan mode in
+    cond (ltb r 3) (r * plan.span + σ.x) (3 * plan.span + 4 * bucket plan.slots σ.x σ.y mode)
 
 -- where the table ends
 abbrev pub table_end : Plan → ℕ
@@ -26,33 +30,33 @@ table_end plan = 3 * plan.span + 4 * plan.slots
 
 -- ---- recalling and noting
 
--- what says that nothing is known
-abbrev pub unsettled : ℕ
-unsettled = 4294967295
-
 -- a number of a region is 0, or the answer and one more
-abbrev pub told : ℕ → ℕ
-told n = cond (eqb n 0) unsettled (n - 1)
+abbrev pub told : ℕ → Option ℕ
+told n = cond (eqb n 0) None (Some (n - 1))
+
+-- the one answer for which a region has no number
+abbrev pub unkept : ℕ
+unkept = 4294967295
 
 abbrev pub kept_as : ℕ → ℕ
-kept_as answer = cond (ltb answer unsettled) (answer + 1) 0
+kept_as answer = cond (ltb answer unkept) (answer + 1) 0
 
--- an entry is x, y, the mode and one more, so that a cleared entry is no state's, and the answer
+-- an entry is x, y, the mode's number and one more, so that a cleared entry is no state's, and the answer
 abbrev pub entered : List ℕ → ℕ → State → Bool
-entered memo at σ = eqb (get_or memo (at + 2) 0) (σ.mode + 1) && (eqb (get_or memo at 0) σ.x && eqb (get_or memo (at + 1) 0) σ.y)
+entered memo at σ = eqb (get_or memo (at + 2) 0) (mode_code σ.mode + 1) && (eqb (get_or memo at 0) σ.x && eqb (get_or memo (at + 1) 0) σ.y)
 
-abbrev pub recalled_at : Plan → List ℕ → ℕ → State → ℕ
+abbrev pub recalled_at : Plan → List ℕ → ℕ → State → Option ℕ
 recalled_at plan memo at σ =
-    cond (ltb at (3 * plan.span)) (told (get_or memo at 0)) (cond (entered memo at σ) (get_or memo (at + 3) 0) unsettled)
+    cond (ltb at (3 * plan.span)) (told (get_or memo at 0)) (cond (entered memo at σ) (Some (get_or memo (at + 3) 0)) None)
 
-unfoldable pub recalled : Plan → List ℕ → State → ℕ
+unfoldable pub recalled : Plan → List ℕ → State → Option ℕ
 recalled plan memo σ = recalled_at plan memo (slot_of plan σ) σ
 
 abbrev pub noted_at : Plan → List ℕ → ℕ → State → ℕ → List ℕ
 noted_at plan memo at σ answer =
     cond (ltb at (3 * plan.span))
     (set memo at (kept_as answer))
-    (set (set (set (set memo at σ.x) (at + 1) σ.y) (at + 2) (σ.mode + 1)) (at + 3) answer)
+    (set (set (set (set memo at σ.x) (at + 1) σ.y) (at + 2) (mode_code σ.mode + 1)) (at + 3) answer)
 
 unfoldable pub noted : Plan → List ℕ → State → ℕ → List ℕ
 noted plan memo σ answer = noted_at plan memo (slot_of plan σ) σ answer
@@ -72,13 +76,12 @@ pub record TableFits (plan : Plan) (memo : List ℕ) : Type 0 where
   pub sizes : TableSizes plan
   pub room : table_end plan ≤ length memo
 
--- the references of a state are the source's; a mode that makes use of one reference has it twice
+-- the references of a state are the source's, one of them twice where its mode makes use of one; and its mode has a number of its own
 pub record InTable (plan : Plan) (σ : State) : Type 0 where
   pub first : σ.x < plan.span
   pub second : σ.y < plan.span
-  pub mode_limit : σ.mode < 256
-  pub turning : σ.mode < 8 → σ.y ≡ σ.x
-  pub waiting : 16 ≤ σ.mode → σ.mode < 32 → σ.y ≡ σ.x
+  pub coded : Coded σ.mode
+  pub once : Once σ.mode σ.x σ.y
 
 -- what a look at the table asks: the state's own slot, in a table that fits
 pub record AtSlot (plan : Plan) (memo : List ℕ) (at : ℕ) (σ : State) : Type 0 where
@@ -88,7 +91,7 @@ pub record AtSlot (plan : Plan) (memo : List ℕ) (at : ℕ) (σ : State) : Type
 
 -- every answer that is recalled is right
 pub record AllRight (Right : State → ℕ → Type 0) (plan : Plan) (memo : List ℕ) : Type 0 where
-  pub right : (σ : State) → InTable plan σ → recalled plan memo σ ≢ unsettled → Right σ (recalled plan memo σ)
+  pub right : (σ : State) → InTable plan σ → (answer : ℕ) → recalled plan memo σ ≡ Some answer → Right σ answer
 
 -- ---- sizes, clearing
 

@@ -1,8 +1,12 @@
--- The plan of a step, read from its numbers. Definitions only.
-use Rattle.std.specs.Prelude.{Bool, false, not, ◌&&◌, ◌||◌, List, ℕ, zero, suc, eqb, get_or}
+-- The plan of a step, as the laws read it. Definitions only.
+use Rattle.std.specs.Prelude.{Bool, true, false, not, ◌&&◌, ◌||◌, ℕ, zero, suc, eqb, Option, Some, None, get_or}
+use Rattle.gates.specs.declared.Code.TheVariants.{X}
 use Rattle.gates.specs.declared.Phases.{Phases}
 use Rattle.gates.specs.declared.Operands.TheVariants.{Qubit}
 use Rattle.gates.specs.declared.Rule.{Rule}
+use Rattle.transitions.specs.declared.Act.{Act}
+use Rattle.transitions.specs.declared.Act.TheVariants.{Moves, Mixes, Swaps}
+use Rattle.transitions.specs.declared.Plan.{Plan as CodePlan}
 
 pub record Plan : Type 0 where
   pub stage : ℕ → ℕ
@@ -13,7 +17,7 @@ pub record Plan : Type 0 where
   pub mixes : Bool
   pub swaps : Bool
   pub phases : Phases
-  pub zero : ℕ
+  pub zero : Option ℕ
   pub node_heads : ℕ
   pub value_heads : ℕ
   pub slots : ℕ
@@ -21,24 +25,39 @@ pub record Plan : Type 0 where
   pub levels : ℕ
   pub span : ℕ
 
-abbrev pub plan_of : List ℕ → Plan
-plan_of l = record {
-  stage = λ s. get_or l s 0;
-  stages = get_or l 17 0;
-  target = get_or l 18 0;
-  second = get_or l 16 0;
-  flips = eqb (get_or l 19 0) 1;
-  mixes = eqb (get_or l 20 0) 1;
-  swaps = eqb (get_or l 20 0) 2;
-  phases = record { zero = get_or l 21 0; one = get_or l 22 0 };
-  zero = get_or l 23 0;
-  node_heads = get_or l 24 0;
-  value_heads = get_or l 25 0;
-  slots = get_or l 26 0;
-  width = get_or l 27 0;
-  levels = get_or l 28 0;
-  span = get_or l 29 0;
+abbrev pub does_mix : Act → Bool
+does_mix Moves = false
+does_mix Mixes = true
+does_mix Swaps = false
+
+abbrev pub does_swap : Act → Bool
+does_swap Moves = false
+does_swap Mixes = false
+does_swap Swaps = true
+
+abbrev pub plan_of : CodePlan → Plan
+plan_of p = record {
+  stage = λ s. get_or p.stages s 0;
+  stages = p.stage_count;
+  target = p.target;
+  second = p.second;
+  flips = p.flips;
+  mixes = does_mix p.act;
+  swaps = does_swap p.act;
+  phases = p.phases;
+  zero = p.zero;
+  node_heads = p.node_heads;
+  value_heads = p.value_heads;
+  slots = p.slots;
+  width = p.width;
+  levels = p.levels;
+  span = p.span;
 }
+
+-- the reference is the source's zero, if there is one
+abbrev pub is_zero : Option ℕ → ℕ → Bool
+is_zero None x = false
+is_zero (Some z) x = eqb x z
 
 -- what the gate does at its target, as the data of a gate
 abbrev pub plan_rule : Plan → Rule
@@ -49,7 +68,7 @@ plan_rule plan = record {
   swaps = plan.swaps;
   right = plan.phases;
   left = plan.phases;
-  inverse = 0;
+  inverse = X;
 }
 
 -- a level is among the first k stages

@@ -1,11 +1,22 @@
 -- The source of a step in its lent columns: which store they hold. Definitions only.
-use Rattle.std.specs.Prelude.{◌≡◌, true, List, [], ℕ, ◌/◌, ◌%◌, ◌<◌, ◌≤◌, ℤ, pos, length, get_or}
+use Rattle.std.specs.Prelude.{◌≡◌, true, List, [], ℕ, ◌/◌, ◌%◌, ◌<◌, ◌≤◌, ℤ, pos, length, get_or, ◌∷◌}
 use Rattle.algebra.specs.declared.Entry.{Entry}
 use Rattle.algebra.specs.Entry.{𝟘, entry}
 use Rattle.diagrams.specs.Diagram.{Ref, code, Store, node_at, ref_of}
 use Rattle.diagrams.specs.Reference.{Seen}
+use Rattle.stores.specs.declared.View.{View}
 use Rattle.transitions.specs.declared.State.{State}
 use Rattle.transitions.specs.Next.{is_leaf}
+
+-- ---- the columns
+
+-- level, low, high
+abbrev pub cols_of : View → List (List ℕ)
+cols_of src = src.level.now ∷ src.low.now ∷ src.high.now ∷ []
+
+-- a, b, c, d
+abbrev pub vals_of : View → List (List ℤ)
+vals_of src = src.a.now ∷ src.b.now ∷ src.c.now ∷ src.d.now ∷ []
 
 -- ---- the columns hold a store
 
@@ -19,7 +30,8 @@ pub record SourceNodes (s : Store Entry) (cols : List (List ℕ)) : Type 0 where
 -- the four numbers in slot j
 abbrev pub source_entry : List (List ℤ) → ℕ → Entry
 source_entry vals j =
-    entry (get_or (get_or vals 0 []) j (pos 0)) (get_or (get_or vals 1 []) j (pos 0)) (get_or (get_or vals 2 []) j (pos 0)) (get_or (get_or vals 3 []) j (pos 0))
+    entry (get_or (get_or vals 0 []) j (pos 0)) (get_or (get_or vals 1 []) j (pos 0))
+    (get_or (get_or vals 2 []) j (pos 0)) (get_or (get_or vals 3 []) j (pos 0))
 
 -- "four value columns (a, b, c, d; signed 32-bit)", of which the first slots hold the store's values
 pub record SourceValues (s : Store Entry) (vals : List (List ℤ)) : Type 0 where

@@ -1,77 +1,63 @@
--- The end of a turn, from the lists that its code leaves to the store that they hold. Assumes nothing.
-use mathlib.Core.Path.{◌≡◌, sym, ap, ◌∙◌, subst}
+-- The end of a turn, from the tables that its code leaves to the store that they hold. Assumes nothing.
+use mathlib.Core.Path.{◌≡◌, refl, sym, ap, ◌∙◌, subst}
 use mathlib.Core.Bool.{Bool, true, false, ◌&&◌}
 use mathlib.Core.Logic.{◌⊎◌, inl, inr}
 use mathlib.Core.List.{List}
-use Prim.Native.Nat.{ℕ, ◌+◌, ◌*◌, ◌<◌, ◌≤◌}
+use Prim.Native.Nat.{ℕ, ◌+◌, ◌*◌, ◌<◌}
 use native.Mathlib.Decide.{ℕ_discrete}
 use native.Mathlib.Omega.{arith}
 use lib.Dec.{leb}
-use lib.IntN.{ℤ}
-use lib.ListN.{length, get_or, length-set}
-use lib.Seq.{get_or-set_same}
-use borrow.Author.Tests.{eq-eqb, ne_eqb, le-leb, lt-leb}
+use lib.ListN.{length}
+use borrow.Author.Tests.{le-leb, lt-leb}
 use Rattle.algebra.specs.declared.Entry.{Entry}
 use Rattle.diagrams.specs.Diagram.{Node, branch, unused, code, ref_of, Store, Diagram, holding, rooted, same_node, keep, put_node}
-use Rattle.uniques.specs.UniqueTable.{node_in, nodes_in, NodesHeld, ValuesHeld}
-use Rattle.uniques.proofs.Chains.{length_listed}
+use Rattle.uniques.specs.UniqueTable.{table_nodes, NodesHeld, NodesUnchanged, NodesMade, ValuesHeld}
 use Rattle.diagrams.proofs.References.{code_ref_of, ref_of_injective}
 use Rattle.diagrams.proofs.Tests.{apart_false, ref_decides, node_decides, true_both}
+use Rattle.transitions.specs.declared.Plan.{Plan}
 use Rattle.transitions.specs.declared.State.{State}
-use Rattle.transitions.specs.Plan.{Plan, plan_of}
-use Rattle.turns.specs.Progress.{OUT, Progress, building, full, out, roomy, node_over, Finish, low_out, high_out, no_more, joined, overflows}
-use Rattle.turns.specs.Work.{Work, node_room, value_room, store_in, progress_of, Filled, Working, SameRoom}
-use Rattle.turns.specs.Turn.{JoinUnchanged, Joined, Finished}
+use Rattle.transitions.specs.Plan.{plan_of}
+use Rattle.turns.specs.declared.Phase.{Phase}
+use Rattle.turns.specs.declared.Phase.TheVariants.{Building, Full, Outside}
+use Rattle.turns.specs.declared.Work.{Work}
+use Rattle.turns.specs.Progress.{OUT, building, full, out, roomy, node_over, Finish, low_out, high_out, no_more, joined, overflows}
+use Rattle.turns.specs.Work.{node_room, value_room, store_in, progress_by, progress_of, Filled, Working, SameWork}
+use Rattle.turns.specs.Turn.{answered, phase_after, Joined, Finished}
 use Rattle.turns.proofs.Progress.{below_out}
 use Rattle.turns.proofs.Tallies.{Counted, fits, over, put_counted}
 
--- ---- how far the tally says that the walk has come
+-- ---- how far the walk has come, by its phase
 
-pub building_is : (w : Work) → get_or w.tally 2 0 ≡ 0 → progress_of w ≡ building (store_in w)
-building_is w e = rw (eq-eqb (get_or w.tally 2 0) 0 e)
+pub building_is : (w : Work) → w.phase ≡ Building → progress_of w ≡ building (store_in w)
+building_is w e = ap (λ (p : Phase). progress_by p (store_in w)) e
 
-pub full_is : (w : Work) → get_or w.tally 2 0 ≡ 1 → progress_of w ≡ full
-full_is w e = rw (e)
+pub full_is : (w : Work) → w.phase ≡ Full → progress_of w ≡ full
+full_is w e = ap (λ (p : Phase). progress_by p (store_in w)) e
 
-pub out_is : (w : Work) → (get_or w.tally 2 0 ≡ 0 → ⊥) → (get_or w.tally 2 0 ≡ 1 → ⊥) → progress_of w ≡ out
-out_is w some more = rw (ne_eqb (get_or w.tally 2 0) 0 some, ne_eqb (get_or w.tally 2 0) 1 more)
+pub out_is : (w : Work) → w.phase ≡ Outside → progress_of w ≡ out
+out_is w e = ap (λ (p : Phase). progress_by p (store_in w)) e
 
--- nothing has left the width
-abbrev Goes : Progress → Type 0
-Goes (building t) = Unit {0}
-Goes full = Unit {0}
-Goes out = ⊥
-
--- the tally tells whether a number has left the width
-pub alive_by : (w : Work) → get_or w.tally 2 0 ≤ 1 → progress_of w ≡ out → ⊥
-alive_by w small = by_phase (ℕ_discrete (get_or w.tally 2 0) 0)
+-- the phase tells whether a number has left the width
+pub alive_by : (w : Work) → (w.phase ≡ Outside → ⊥) → progress_of w ≡ out → ⊥
+alive_by w alive = by_phase w.phase refl
   where
-    not_built : {t : Store Entry} → building t ≡ out → ⊥
-    not_built e = subst Goes e tt
-
-    not_full : full ≡ out → ⊥
-    not_full e = subst Goes e tt
-
-    by_phase : Dec (get_or w.tally 2 0 ≡ 0) → progress_of w ≡ out → ⊥
-    by_phase (yes z) e = not_built (sym (building_is w z) ∙ e)
-    by_phase (no z) e = not_full (sym (full_is w (omega arith)) ∙ e)
-
-pub gone_by : (w : Work) → 1 < get_or w.tally 2 0 → progress_of w ≡ out
-gone_by w large = out_is w (λ z. omega arith) (λ o. omega arith)
+    by_phase : (p : Phase) → w.phase ≡ p → progress_of w ≡ out → ⊥
+    by_phase Building is e = let apart : building (store_in w) ≡ out = sym (building_is w is) ∙ e in cc
+    by_phase Full is e = let apart : full ≡ out = sym (full_is w is) ∙ e in cc
+    by_phase Outside is e = alive is
 
 -- ---- what a store has room for
 
-pub held_roomy : {N L heads heads' : ℕ} {ns : List Node} {vs : List Entry} {level low high index : List ℕ} {terminals : List ℤ} {index' : List ℕ}
+pub held_roomy : {N L heads heads' : ℕ} {ns : List Node} {vs : List Entry} {level low high index : List ℕ} {terminals : List Entry} {index' : List ℕ}
     → NodesHeld N heads ns level low high index → ValuesHeld L heads' vs terminals index' → roomy N L (holding ns vs) ≡ true
 held_roomy nodes values = true_both (le-leb _ _ nodes.indexed.room) (le-leb _ _ values.indexed.room)
 
 -- ---- the end
 
 -- what the end of a turn comes to
-pub record Ended (plan : Plan) (w w' : Work) (lv l h r : ℕ) : Type 0 where
+pub record Ended (w w' : Work) (lv l h r : ℕ) : Type 0 where
   pub finish : Finish (node_room w) (value_room w) lv l h (progress_of w) (progress_of w') r
-  pub filled : Filled plan w' (progress_of w')
-  pub four : length w'.tally ≡ 4
+  pub filled : Filled w' (progress_of w')
 
 module _ (N L lv l h : ℕ) (t : Store Entry) (low_in : l ≡ OUT → ⊥) (high_in : h ≡ OUT → ⊥) where
   -- the same of a diagram that is the node over the answers
@@ -87,74 +73,46 @@ module _ (N L lv l h : ℕ) (t : Store Entry) (low_in : l ≡ OUT → ⊥) (high
   node_apart : (l ≡ h → ⊥) → put_node (branch lv (ref_of l) (ref_of h)) t ≡ node_over lv l h t
   node_apart differ = rw (apart_false ref_decides (ref_of l) (ref_of h) (λ e. differ (ref_of_injective l h e)))
 
-module _ (plan : List ℕ) (s : Store Entry) (w w' : Work) (lv l h r : ℕ) (working : Working (plan_of plan) s w) (room : SameRoom w w')
-    (terminals_same : w'.terminals ≡ w.terminals) (index_same : w'.value_index ≡ w.value_index) where
-  abbrev Unchanged : Type 0
-  Unchanged = JoinUnchanged plan w.level w.low w.high w.node_index w.tally w'.level w'.low w'.high w'.node_index w'.tally
-
-  abbrev Join : Type 0
-  Join = Joined plan w.level w.low w.high w.node_index w.tally w'.level w'.low w'.high w'.node_index w'.tally lv l h r
-
+module _ (P : Plan) (s : Store Entry) (w w' : Work) (lv l h r : ℕ) (working : Working (plan_of P) s w) (same : SameWork w w') where
   -- nothing changes
-  module _ (u : Unchanged) where
-    progress_same : progress_of w' ≡ progress_of w
-    progress_same = rw (u.0, u.1, u.2, u.3, terminals_same)
-
-    filled_same : (p : Progress) → Filled (plan_of plan) w p → Filled (plan_of plan) w' p
-    filled_same (building t) f = rw (u.1, u.2, u.3, u.4, terminals_same, index_same) f
-    filled_same full f = tt
-    filled_same out f = tt
-
-    ended_same : Finish (node_room w) (value_room w) lv l h (progress_of w) (progress_of w) r → Ended (plan_of plan) w w' lv l h r
-    ended_same finish = record {
-      finish = rw progress_same finish;
-      filled = rw progress_same (filled_same (progress_of w) working.filled);
-      four = ap length u.0 ∙ working.four;
-    }
+  ended_same : w' ≡ w → Finish (node_room w) (value_room w) lv l h (progress_of w) (progress_of w) r → Ended w w' lv l h r
+  ended_same e finish = subst (λ (v : Work). Ended w v lv l h r) (sym e) (record { finish = finish; filled = working.filled })
 
   -- while the walk builds
-  module _ (builds : get_or w.tally 2 0 ≡ 0) (low_in : l < OUT) (high_in : h < OUT) where
-    abbrev used : ℕ
-    used = get_or w.tally 0 0
-
+  module _ (builds : w.phase ≡ Building) (low_in : l < OUT) (high_in : h < OUT) (values_same : w'.values.now ≡ w.values.now) where
     abbrev nodes : List Node
-    nodes = nodes_in used w.level w.low w.high
+    nodes = table_nodes w.nodes.now
 
     abbrev wanted : Node
     wanted = branch lv (ref_of l) (ref_of h)
 
-    holds : Filled (plan_of plan) w (building (store_in w))
+    holds : Filled w (building (store_in w))
     holds = rw (building_is w builds) at working.filled
 
-    used_is : used ≡ length nodes
-    used_is = sym (length_listed used (node_in w.level w.low w.high))
+    ended_alike : l ≡ h → r ≡ l → w'.phase ≡ Building → NodesUnchanged w.nodes.now w'.nodes.now → Ended w w' lv l h r
+    ended_alike e is phase u =
+        let store : store_in w' ≡ store_in w = rw (u.0, u.1, u.2, u.4, values_same) in
+        record {
+          finish = rw (building_is w builds, building_is w' phase, store, is ∙ sym (code_ref_of l))
+              (joined_as (node_room w) (value_room w) lv l h (store_in w) (below_out low_in) (below_out high_in)
+              (node_alike (node_room w) (value_room w) lv l h (store_in w) (below_out low_in) (below_out high_in) e)
+              (held_roomy holds.0 holds.1) (rw (code_ref_of l) low_in));
+          filled = rw (building_is w' phase) (rw (u.0, u.1, u.2, u.3, u.4, same.nodes.heads) holds.0, rw values_same holds.1);
+        }
 
-    ended_alike : l ≡ h → (r ≡ l) × Unchanged → Ended (plan_of plan) w w' lv l h r
-    ended_alike e (is, u) =
-        ended_same u (rw (building_is w builds, is ∙ sym (code_ref_of l))
-        (joined_as (node_room w) (value_room w) lv l h (store_in w) (below_out low_in) (below_out high_in)
-        (node_alike (node_room w) (value_room w) lv l h (store_in w) (below_out low_in) (below_out high_in) e)
-        (held_roomy holds.0 holds.1) (rw (code_ref_of l) low_in)))
-
-    ended_apart : (l ≡ h → ⊥) → Counted node_decides unused wanted nodes (λ i. 2 * i + 1) (node_room w)
-        (λ ns. NodesHeld (node_room w) (plan_of plan).node_heads ns w'.level w'.low w'.high w'.node_index) 0 r w.tally w'.tally
-        → Ended (plan_of plan) w w' lv l h r
-    ended_apart differ (fits small answer below held tallies) =
-        let phase : get_or w'.tally 2 0 ≡ 0 = tallies.others 2 (λ e. omega arith) ∙ builds in
-        let store : store_in w' ≡ (put_node wanted (store_in w)).store
-        = rw (tallies.count, held.nodes, tallies.others 1 (λ e. omega arith), terminals_same) in
+    ended_apart : (l ≡ h → ⊥) → Counted node_decides unused wanted nodes (λ i. 2 * i + 1) (node_room w) (NodesMade w.nodes.now w'.nodes.now) r w'.phase
+        → Ended w w' lv l h r
+    ended_apart differ (fits small answer below (held, _, count) phase) =
+        let store : store_in w' ≡ (put_node wanted (store_in w)).store = rw (count, held.nodes, values_same) in
         let (_, values) = holds in
         record {
           finish = rw (building_is w builds, building_is w' phase, store, answer)
               (joined_as (node_room w) (value_room w) lv l h (store_in w) (below_out low_in) (below_out high_in)
               (node_apart (node_room w) (value_room w) lv l h (store_in w) (below_out low_in) (below_out high_in) differ)
               (held_roomy held values) (rw (← answer) below));
-          filled = rw (building_is w' phase) (subst (λ (t : Store Entry). Filled (plan_of plan) w' (building t)) (sym store)
-              (rw (room.level, terminals_same, index_same) (held, values)));
-          four = tallies.long ∙ working.four;
+          filled = rw (building_is w' phase) (rw (same.nodes.level_long, same.nodes.heads, count, held.nodes) held, rw values_same values);
         }
-    ended_apart differ (over large answer tallies) =
-        let phase : get_or w'.tally 2 0 ≡ 1 = rw tallies (get_or-set_same w.tally 2 1 0 (omega (arith, working.four))) in
+    ended_apart differ (over large answer phase) =
         let is = node_apart (node_room w) (value_room w) lv l h (store_in w) (below_out low_in) (below_out high_in) differ in
         let no_room : roomy (node_room w) (value_room w) (node_over lv l h (store_in w)).store ≡ false
         = ap (λ (D : Diagram Entry). roomy (node_room w) (value_room w) D.store) (sym is)
@@ -162,50 +120,48 @@ module _ (plan : List ℕ) (s : Store Entry) (w w' : Work) (lv l h r : ℕ) (wor
         record {
           finish = rw (building_is w builds, full_is w' phase, answer) (overflows (below_out low_in) (below_out high_in) no_room);
           filled = rw (full_is w' phase) tt;
-          four = ap length tallies ∙ length-set w.tally 2 1 ∙ working.four;
         }
 
-    ended_built : Join → Ended (plan_of plan) w w' lv l h r
+    ended_built : Joined w w' lv l h r → Ended w w' lv l h r
     ended_built join = by_answers (ℕ_discrete l h)
       where
-        odd_injective : (i j : ℕ) → 2 * i + 1 ≡ 2 * j + 1 → i ≡ j
-        odd_injective i j e = omega arith
-
         few : (i : ℕ) → i < node_room w → 2 * i + 1 < OUT
         few i less = let (held, _) = holds in omega (arith, held.indexed.limit)
 
-        by_answers : Dec (l ≡ h) → Ended (plan_of plan) w w' lv l h r
-        by_answers (yes same) = ended_alike same (join.alike builds same)
+        by_answers : Dec (l ≡ h) → Ended w w' lv l h r
+        by_answers (yes alike) =
+            let (o, is, phase, made) = join.made builds in
+            let (some, u) = made.alike (ap ref_of alike) in
+            ended_alike alike (is ∙ ap answered some ∙ code_ref_of l) (phase ∙ ap phase_after some) u
         by_answers (no differ) =
-            let (tallies, made) = join.apart builds differ in
-            let put = made.apart (λ e. differ (ref_of_injective l h e)) in
-            ended_apart differ (put_counted node_decides unused wanted nodes (λ i. 2 * i + 1) (node_room w) odd_injective few
-            (omega (arith, working.four)) used_is tallies
-            (record { kept = λ fit. ((put.kept fit).0, (put.kept fit).1.0); missing = put.missing }))
+            let (o, is, phase, made) = join.made builds in
+            ended_apart differ (put_counted node_decides unused wanted nodes (λ i. 2 * i + 1) (node_room w) few is phase
+            (made.apart (λ e. differ (ref_of_injective l h e))))
 
   -- every way
   pub ended : {σ : State} → (progress_of w ≡ out → (l ≡ OUT) ⊎ (h ≡ OUT)) → ((t : Store Entry) → progress_of w ≡ building t → (l < OUT) × (h < OUT))
-      → Finished plan w.level w.low w.high w.node_index w.tally
-      w'.level w'.low w'.high w'.node_index w'.tally lv l h w.memo σ w'.memo r → Ended (plan_of plan) w w' lv l h r
+      → Finished w w' P lv l h σ r → Ended w w' lv l h r
   ended outs refs finished = by_low (ℕ_discrete l OUT)
     where
-      by_phase : (l ≡ OUT → ⊥) → (h ≡ OUT → ⊥) → Dec (get_or w.tally 2 0 ≡ 0) → Dec (get_or w.tally 2 0 ≡ 1) → Ended (plan_of plan) w w' lv l h r
-      by_phase p q (yes builds) _ =
+      by_phase : (l ≡ OUT → ⊥) → (h ≡ OUT → ⊥) → (p : Phase) → w.phase ≡ p → Ended w w' lv l h r
+      by_phase p q Building builds =
           let (low_in, high_in) = refs (store_in w) (building_is w builds) in
-          ended_built builds low_in high_in (finished.inside p q).0
-      by_phase p q (no past) (yes at_full) =
-          let (is, u) = (finished.inside p q).0.past past in
-          ended_same u (rw (full_is w at_full, is) (no_more p q))
-      by_phase p q (no past) (no more) = by_out (outs (out_is w past more))
+          let join = (finished.inside p q).0 in
+          ended_built builds low_in high_in join.values join
+      by_phase p q Full at_full =
+          let (is, phase, _) = (finished.inside p q).0.past (λ builds. cc) in
+          let still : progress_of w' ≡ full = full_is w' (phase ∙ at_full) in
+          record { finish = rw (full_is w at_full, still, is) (no_more p q); filled = rw still tt }
+      by_phase p q Outside gone = by_out (outs (out_is w gone))
         where
-          by_out : (l ≡ OUT) ⊎ (h ≡ OUT) → Ended (plan_of plan) w w' lv l h r
+          by_out : (l ≡ OUT) ⊎ (h ≡ OUT) → Ended w w' lv l h r
           by_out (inl e) = absurd (p e)
           by_out (inr e) = absurd (q e)
 
-      by_high : (l ≡ OUT → ⊥) → Dec (h ≡ OUT) → Ended (plan_of plan) w w' lv l h r
-      by_high p (yes e) = let (is, _, u) = finished.high_out e in ended_same u (rw is (high_out e))
-      by_high p (no q) = by_phase p q (ℕ_discrete (get_or w.tally 2 0) 0) (ℕ_discrete (get_or w.tally 2 0) 1)
+      by_high : (l ≡ OUT → ⊥) → Dec (h ≡ OUT) → Ended w w' lv l h r
+      by_high p (yes e) = let (is, u) = finished.high_out e in ended_same u (rw is (high_out e))
+      by_high p (no q) = by_phase p q w.phase refl
 
-      by_low : Dec (l ≡ OUT) → Ended (plan_of plan) w w' lv l h r
-      by_low (yes e) = let (is, _, u) = finished.low_out e in ended_same u (rw is (low_out e))
+      by_low : Dec (l ≡ OUT) → Ended w w' lv l h r
+      by_low (yes e) = let (is, u) = finished.low_out e in ended_same u (rw is (low_out e))
       by_low (no p) = by_high p (ℕ_discrete h OUT)

@@ -1,146 +1,133 @@
 // A turn of a step's walk, before and after its calls: the value of a state with no question left, and the node over two answers.
 #![tactic(auto)]
 
-ghost use Rattle.std.specs.Prelude.{map, ◌/◌};
+ghost use Rattle.std.specs.Prelude.{◌≡◌, ◌/◌};
 ghost use Rattle.transitions.specs.Plan.{plan_of};
-ghost use Rattle.transitions.specs.Source.{HoldsSlot};
-ghost use Rattle.transitions.specs.Next.{numbered};
+ghost use Rattle.transitions.specs.Source.{vals_of, HoldsSlot};
 ghost use Rattle.tables.specs.Table.{AtSlot};
+ghost use Rattle.turns.specs.Work.{SameWork};
 ghost use Rattle.turns.specs.Turn.{JoinReady, Joined, Finished, PlaceReady, Placed, Settled};
 
-use algebra::{Bounded, Entry};
-use transitions::{NODE_HEADS, VALUE_HEADS, WIDTH};
+use algebra::Entry;
+use stores::View;
+use transitions::{Plan, State};
+use uniques::{NodeTable, ValueTable};
 
+// What the walkers answer where there is no reference: numbers that no reference reaches, as the computed table, which keeps the first, is
+// numbers in one lent slice.
+//
 // The product needs more room than there is.
 pub const FULL: u32 = 4294967293;
 
 // A number of the product lies outside the width.
 pub const OUT: u32 = 4294967292;
 
+// How far a step's walk has come: it builds; or it needed more room than there is, but every number so far lay in the width; or one did
+// not.
+#[derive(Clone, Copy, PartialEq, Eq, Debug)]
+pub enum Phase {
+    Building,
+    Full,
+    Outside,
+}
+
+// What a step's walk works on: the tables of the product's nodes and values, the computed table, and how far it has come. The two tables
+// are lent and no part of it: of slices lent through a struct within a struct, the function that lends them is not told what they become.
+#[derive(Drop)]
+pub struct Work<'w, 'n, 'v> {
+    pub nodes: &'w mut NodeTable<'n>,
+    pub values: &'w mut ValueTable<'v>,
+    pub memo: &'w mut [u32],
+    pub phase: Phase,
+}
+
 // The node over two answers, if the walk still builds.
-fn join(
-    plan: &[u32; 32],
-    lv: u32,
-    l: u32,
-    h: u32,
-    level: &mut [u32],
-    low: &mut [u32],
-    high: &mut [u32],
-    index: &mut [u32],
-    tally: &mut [u32; 4],
-) -> u32
-    requires { JoinReady plan.now level.old low.old high.old index.old tally.old }
-    ensures { Joined plan.now level.old low.old high.old index.old tally.old
-        level.new low.new high.new index.new tally.new lv l h result }
+#[inline]
+fn join(work: &mut Work<'_, '_, '_>, lv: u32, l: u32, h: u32) -> u32
+    requires { JoinReady work.old }
+    ensures same { SameWork work.old work.new }
+    ensures joined { Joined work.old work.new lv l h result }
+    ensures memo { work.new.memo ≡ work.old.memo }
 {
-    if tally[2] != 0 {
+    if work.phase != Phase::Building {
         return FULL;
     }
-    if l == h {
-        return l;
+    match work.nodes.make(lv, l, h) {
+        Some(node) => node,
+        None => {
+            work.phase = Phase::Full;
+            FULL
+        }
     }
-    let used = tally[0];
-    let r = uniques::make_node(level, low, high, index, plan[NODE_HEADS], used, lv, l, h);
-    if r == FULL {
-        tally[2] = 1;
-        return r;
-    }
-    if r == 2 * used + 1 {
-        tally[0] = used + 1;
-    }
-    r
 }
 
 // After the two calls: the node over their answers, kept in the computed table.
+#[inline]
 pub fn finish(
-    plan: &[u32; 32],
+    work: &mut Work<'_, '_, '_>,
+    plan: &Plan,
     at: usize,
     lv: u32,
-    x: u32,
-    y: u32,
-    mode: u32,
+    state: State,
     l: u32,
     h: u32,
-    level: &mut [u32],
-    low: &mut [u32],
-    high: &mut [u32],
-    index: &mut [u32],
-    memo: &mut [u32],
-    tally: &mut [u32; 4],
 ) -> u32
-    requires join_ready { JoinReady plan.now level.old low.old high.old index.old tally.old }
-    requires at_slot { AtSlot (plan_of plan.now) memo.old at (numbered x y mode) }
-    ensures { Finished plan.now level.old low.old high.old index.old tally.old
-        level.new low.new high.new index.new tally.new
-        lv l h memo.old (numbered x y mode) memo.new result }
+    requires join_ready { JoinReady work.old }
+    requires at_slot { AtSlot (plan_of plan.now) work.old.memo.now at state }
+    ensures same { SameWork work.old work.new }
+    ensures finished { Finished work.old work.new plan.now lv l h state result }
 {
-    if l == OUT {
+    if l == OUT || h == OUT {
         return OUT;
     }
-    if h == OUT {
-        return OUT;
-    }
-    let r = join(plan, lv, l, h, level, low, high, index, tally);
-    tables::note(memo, plan, at, x, y, mode, r);
+    let r = join(work, lv, l, h);
+    tables::note(work.memo, plan, at, state, r);
     r
 }
 
 // A terminal, if the walk still builds.
-fn terminal(
-    plan: &[u32; 32],
-    e: Entry,
-    terminals: &mut [i32],
-    index: &mut [u32],
-    tally: &mut [u32; 4],
-) -> u32
-    requires { PlaceReady plan.now terminals.old index.old tally.old }
-    ensures { Placed plan.now terminals.old index.old tally.old
-        terminals.new index.new tally.new e result }
+#[inline]
+fn terminal(work: &mut Work<'_, '_, '_>, e: Entry) -> u32
+    requires { PlaceReady work.old }
+    ensures same { SameWork work.old work.new }
+    ensures placed { Placed work.old work.new e result }
+    ensures memo { work.new.memo ≡ work.old.memo }
 {
-    if tally[2] != 0 {
+    if work.phase != Phase::Building {
         return FULL;
     }
-    let used = tally[1];
-    let r = uniques::make_value(terminals, index, plan[VALUE_HEADS], used, e);
-    if r == FULL {
-        tally[2] = 1;
-        return r;
+    match work.values.make(e) {
+        Some(value) => value,
+        None => {
+            work.phase = Phase::Full;
+            FULL
+        }
     }
-    if r == 2 * used {
-        tally[1] = used + 1;
-    }
-    r
 }
 
 // A state with no question left: its value, if it lies within the width, kept in the computed table.
+#[inline]
 pub fn settle(
-    plan: &[u32; 32],
+    work: &mut Work<'_, '_, '_>,
+    plan: &Plan,
+    src: &View<'_>,
     at: usize,
-    x: u32,
-    y: u32,
-    mode: u32,
-    values: &[&[i32]; 4],
-    terminals: &mut [i32],
-    index: &mut [u32],
-    memo: &mut [u32],
-    tally: &mut [u32; 4],
+    state: State,
 ) -> u32
-    requires place_ready { PlaceReady plan.now terminals.old index.old tally.old }
-    requires at_slot { AtSlot (plan_of plan.now) memo.old at (numbered x y mode) }
-    requires holds_slot { HoldsSlot (map (λ x. x.now) values.now) (x / 2) × HoldsSlot (map (λ x. x.now) values.now) (y / 2) }
-    ensures { Settled plan.now terminals.old index.old tally.old
-        terminals.new index.new tally.new
-        (map (λ x. x.now) values.now) memo.old (numbered x y mode) memo.new result }
+    requires place_ready { PlaceReady work.old }
+    requires at_slot { AtSlot (plan_of plan.now) work.old.memo.now at state }
+    requires holds_slot { HoldsSlot (vals_of src.now) (state.x / 2) × HoldsSlot (vals_of src.now) (state.y / 2) }
+    ensures same { SameWork work.old work.new }
+    ensures settled { Settled work.old work.new plan.now (vals_of src.now) state result }
 {
-    let b = leaves::leaf(values, x, y, mode, plan[WIDTH]);
-    match b {
-        Bounded::Within(e) => {
-            let r = terminal(plan, e, terminals, index, tally);
-            tables::note(memo, plan, at, x, y, mode, r);
+    match leaves::leaf(src, state, plan.width) {
+        Some(e) => {
+            let r = terminal(work, e);
+            tables::note(work.memo, plan, at, state, r);
             r
         }
-        Bounded::Outside => {
-            tally[2] = 2;
+        None => {
+            work.phase = Phase::Outside;
             OUT
         }
     }

@@ -13,9 +13,9 @@ use native.Mathlib.Omega.{arith}
 use lib.Dec.{eqb}
 use lib.ListN.{length, get_or, set, length-append, length-set, get_or-append}
 use lib.Seq.{get_or_at, get_or-set_same, get_or-set_other}
-use borrow.Author.Tests.{eqb-true, eqb-false, eq-eqb, ne_eqb, lt-ltb, le-ltb}
-use Rattle.diagrams.specs.Diagram.{slot, keep}
-use Rattle.uniques.specs.UniqueTable.{full, listed, last_with, hash_at, Indexed, found, Put}
+use borrow.Author.Tests.{eqb-true, eqb-false, lt-ltb, le-ltb}
+use Rattle.std.proofs.Common.{Option, Some, None}
+use Rattle.uniques.specs.UniqueTable.{listed, last_with, hash_at, Indexed, found, Put}
 use Rattle.diagrams.proofs.Tests.{Decides, false_apart}
 use Rattle.diagrams.proofs.Keeping.{Absent, Keeps, Kept, kept, distinct_snoc}
 use Rattle.diagrams.proofs.Keeping as keeping
@@ -135,18 +135,18 @@ module _ {A : Type 0} {hash : A → ℕ} {blank : A} {N heads : ℕ} {l : List A
           (eq-or-lt_of_le (omega arith))
 
   module _ {same : A → A → Bool} (𝓓 : Decides same) where
-    pub search_ends : Searching hash blank l x 0 → 0 ≡ found same x l
+    pub search_ends : Searching hash blank l x 0 → None ≡ found same x l
     search_ends s = by_kept (kept 𝓓 blank x l)
       where
-        by_kept : Kept same blank x l → 0 ≡ found same x l
+        by_kept : Kept same blank x l → None ≡ found same x l
         by_kept (keeping.found j h e k) = absurd (s.passed j (omega arith) h e)
         by_kept (keeping.fresh a k) = rw (k.1, le-ltb (length l) (length l) (omega arith))
 
-    pub search_finds : (i : ℕ) → Searching hash blank l x (suc i) → get_or l i blank ≡ x → suc i ≡ found same x l
+    pub search_finds : (i : ℕ) → Searching hash blank l x (suc i) → get_or l i blank ≡ x → Some i ≡ found same x l
     search_finds i s e = by_kept (kept 𝓓 blank x l)
       where
-        by_kept : Kept same blank x l → suc i ≡ found same x l
-        by_kept (keeping.found j h g k) = rw (k.1, lt-ltb j (length l) h) (ap suc (indexed.once i j s.below h (e ∙ sym g)))
+        by_kept : Kept same blank x l → Some i ≡ found same x l
+        by_kept (keeping.found j h g k) = rw (k.1, lt-ltb j (length l) h) (ap Some (indexed.once i j s.below h (e ∙ sym g)))
         by_kept (keeping.fresh a k) = absurd (a i s.below e)
 
 -- The same as a loop goes through the chain of x over the first slots: it tests the element at p − 1.
@@ -172,81 +172,68 @@ module _ {A : Type 0} {hash : A → ℕ} {blank : A} {N heads : ℕ} (used : ℕ
         let down : suc i - 1 ≡ i = omega arith in
         rw down (search_steps indexed x i s (λ q. false_apart 𝓓 (at i) x (tested i is e) (sym (here i s) ∙ q)))
 
-    pub turn_found : (p : ℕ) {t : Bool} → Search p → (p ≡ 0 → ⊥) → t ≡ same (at (p - 1)) x → t ≡ true → p ≡ found same x (listed used at)
+    pub turn_found : (p : ℕ) {t : Bool} → Search p → (p ≡ 0 → ⊥) → t ≡ same (at (p - 1)) x → t ≡ true → Some (p - 1) ≡ found same x (listed used at)
     turn_found zero s some is e = absurd (some refl)
-    turn_found (suc i) s some is e = search_finds indexed x 𝓓 i s (here i s ∙ 𝓓.sound (at i) x (tested i is e))
+    turn_found (suc i) s some is e =
+        let down : suc i - 1 ≡ i = omega arith in
+        rw down (search_finds indexed x 𝓓 i s (here i s ∙ 𝓓.sound (at i) x (tested i is e)))
 
-    pub turns_end : (p : ℕ) → Search p → p ≡ 0 → 0 ≡ found same x (listed used at)
+    pub turns_end : (p : ℕ) → Search p → p ≡ 0 → None ≡ found same x (listed used at)
     turns_end p s e = search_ends indexed x 𝓓 (rw e at s)
 
 -- ---- what is found, and what follows
 
 module _ {A : Type 0} {same : A → A → Bool} (𝓓 : Decides same) (blank x : A) (l : List A) where
-  -- what an answer p of a search says of the list
-  pub data Searched (p : ℕ) : Type 0 where
-    there : (i : ℕ) → p ≡ suc i → i < length l → Keeps same x l l i → Searched p
-    nowhere : p ≡ 0 → Absent blank x l → Keeps same x l (l ++ (x ∷ [])) (length l) → Searched p
+  -- what an answer r of a search says of the list
+  pub data Searched (r : Option ℕ) : Type 0 where
+    there : (i : ℕ) → r ≡ Some i → i < length l → Keeps same x l l i → Searched r
+    nowhere : r ≡ None → Absent blank x l → Keeps same x l (l ++ (x ∷ [])) (length l) → Searched r
 
-  pub searched : (p : ℕ) → p ≡ found same x l → Searched p
-  searched p e = by_kept (kept 𝓓 blank x l)
+  pub searched : (r : Option ℕ) → r ≡ found same x l → Searched r
+  searched r e = by_kept (kept 𝓓 blank x l)
     where
-      by_kept : Kept same blank x l → Searched p
+      by_kept : Kept same blank x l → Searched r
       by_kept (keeping.found j h g k) = there j (e ∙ rw (k.1, lt-ltb j (length l) h)) h k
       by_kept (keeping.fresh a k) = nowhere (e ∙ rw (k.1, le-ltb (length l) (length l) (omega arith))) a k
 
-  pub found_bound : (p : ℕ) → p ≡ found same x l → p ≤ length l
-  found_bound p e = by_search (searched p e)
+  -- where it found, the element stands there
+  pub found_there : (i : ℕ) → Some i ≡ found same x l → (i < length l) × Keeps same x l l i
+  found_there i e = by_search (searched (Some i) e)
     where
-      by_search : Searched p → p ≤ length l
-      by_search (there i q h k) = omega arith
-      by_search (nowhere q a k) = omega arith
+      by_search : Searched (Some i) → (i < length l) × Keeps same x l l i
+      by_search (there j q h k) = let here : j ≡ i = cc in rw (← here) (h, k)
+      by_search (nowhere q a k) = absurd (cc)
 
-  -- what is answered for the slot tells whether the list has grown
-  pub keep_grows : (answer : ℕ → ℕ) → ((i j : ℕ) → answer i ≡ answer j → i ≡ j)
-      → length (keep same x l) ≡ cond (eqb (answer (slot same x l)) (answer (length l))) (length l + 1) (length l)
-  keep_grows answer injective = by_kept (kept 𝓓 blank x l)
+  -- and where not, it is absent
+  pub found_nowhere : None ≡ found same x l → Absent blank x l × Keeps same x l (l ++ (x ∷ [])) (length l)
+  found_nowhere e = by_search (searched None e)
     where
-      not_itself : (j : ℕ) → j < length l → j ≡ length l → ⊥
-      not_itself j h e = omega arith
+      by_search : Searched None → Absent blank x l × Keeps same x l (l ++ (x ∷ [])) (length l)
+      by_search (there j q h k) = absurd (cc)
+      by_search (nowhere q a k) = (a, k)
 
-      by_kept : Kept same blank x l → length (keep same x l) ≡ cond (eqb (answer (slot same x l)) (answer (length l))) (length l + 1) (length l)
-      by_kept (keeping.found j h g k) = rw (k.0, k.1, ne_eqb (answer j) (answer (length l)) (λ e. not_itself j h (injective j (length l) e)))
-      by_kept (keeping.fresh a k) = rw (k.0, k.1, eq-eqb (answer (length l)) (answer (length l)) refl) (length-append l (x ∷ []))
-
-  module _ (answer : ℕ → ℕ) (N : ℕ) (Held : List A → Type 0) (Unchanged : Type 0) (p : ℕ) (e : p ≡ found same x l) where
+  module _ (answer : ℕ → ℕ) (N : ℕ) (Held : List A → Type 0) (Unchanged : Type 0) where
     -- it is there: nothing changes
-    pub put_there : length l ≤ N → (p ≡ 0 → ⊥) → Held l → Put same answer N x l (answer (p - 1)) Held Unchanged
-    put_there room some held = by_search (searched p e)
-      where
-        by_search : Searched p → Put same answer N x l (answer (p - 1)) Held Unchanged
-        by_search (there i q h k) = record {
-          kept = λ _. (ap answer (omega (arith, k.1)), rw k.0 held);
-          missing = λ less. absurd (omega (arith, ap length k.0));
-        }
-        by_search (nowhere q a k) = absurd (some q)
+    pub put_there : (i : ℕ) → Some i ≡ found same x l → length l ≤ N → Held l → Put same answer N x l (Some (answer i)) Held Unchanged
+    put_there i e room held = let (_, k) = found_there i e in record {
+      kept = λ _. (ap (λ (j : ℕ). Some (answer j)) (sym k.1), rw k.0 held);
+      missing = λ less. absurd (omega (arith, ap length k.0));
+    }
 
     -- it is not: it takes the next slot
-    pub put_next : (used : ℕ) → used ≡ length l → used < N → p ≡ 0 → (Absent blank x l → Held (l ++ (x ∷ [])))
-        → Put same answer N x l (answer used) Held Unchanged
-    put_next used u room none held = by_search (searched p e)
-      where
-        by_search : Searched p → Put same answer N x l (answer used) Held Unchanged
-        by_search (there i q h k) = absurd (omega arith)
-        by_search (nowhere q a k) = record {
-          kept = λ _. (ap answer (u ∙ sym k.1), rw k.0 (held a));
-          missing = λ less. absurd (omega (arith, ap length k.0, length-append l (x ∷ [])));
-        }
+    pub put_next : (used : ℕ) → None ≡ found same x l → used ≡ length l → used < N → (Absent blank x l → Held (l ++ (x ∷ [])))
+        → Put same answer N x l (Some (answer used)) Held Unchanged
+    put_next used e u room held = let (a, k) = found_nowhere e in record {
+      kept = λ _. (ap (λ (j : ℕ). Some (answer j)) (u ∙ sym k.1), rw k.0 (held a));
+      missing = λ less. absurd (omega (arith, ap length k.0, length-append l (x ∷ [])));
+    }
 
     -- and no slot is left
-    pub put_full : N ≤ length l → p ≡ 0 → Unchanged → Put same answer N x l full Held Unchanged
-    put_full none_left none unchanged = by_search (searched p e)
-      where
-        by_search : Searched p → Put same answer N x l full Held Unchanged
-        by_search (there i q h k) = absurd (omega arith)
-        by_search (nowhere q a k) = record {
-          kept = λ fits. absurd (omega (arith, ap length k.0, length-append l (x ∷ [])));
-          missing = λ _. (refl, unchanged);
-        }
+    pub put_full : None ≡ found same x l → N ≤ length l → Unchanged → Put same answer N x l None Held Unchanged
+    put_full e none_left unchanged = let (_, k) = found_nowhere e in record {
+      kept = λ fits. absurd (omega (arith, ap length k.0, length-append l (x ∷ [])));
+      missing = λ _. (refl, unchanged);
+    }
 
 -- ---- one more element
 

@@ -9,10 +9,9 @@ use borrow.Author.Tests.{le-ltb}
 use lib.IntN.{ℤ, pos, negsuc, ◌+ℤ◌}
 use lib.Signed.{mag}
 use mir.Facts.{to_z-of_z}
-use mir.Syntax.{w32, w64}
-use mir.Val.{SFits, to_z, of_z}
+use mir.Syntax.{w32}
+use mir.Val.{to_z, of_z}
 use Rattle.algebra.specs.declared.Entry.{Entry}
-use Rattle.algebra.proofs.Widths.{as64, as64_is}
 use Rattle.diagrams.specs.Diagram.{Node}
 use Rattle.uniques.specs.UniqueTable.{node_hash, lifted, value_hash}
 
@@ -24,9 +23,6 @@ scaled_bound x heads = mul-le-mul_right heads (omega arith)
 scaled_below : (x heads : ℕ) → 0 < heads → x % 65536 * heads / 65536 < heads
 scaled_below x heads some = (div-lt_iff_lt-mul {k = 65536} (omega arith)).1 (omega (arith, scaled_bound x heads))
 
-pub scaled_fits : (x heads : ℕ) → heads < 2 ^ 32 → x % 65536 * heads < 2 ^ 64
-scaled_fits x heads small = omega (arith, scaled_bound x heads)
-
 pub node_hash_below : (heads : ℕ) (n : Node) → 0 < heads → node_hash heads n < heads
 unfolding node_hash
 node_hash_below heads n some = scaled_below _ heads some
@@ -37,7 +33,7 @@ value_hash_below heads e some = scaled_below _ heads some
 
 -- ---- numbers lifted by 2^31
 
-lifted_sum : (z : ℤ) → mag z < 2 ^ 31 → z +ℤ pos 2147483648 ≡ pos (lifted z)
+pub lifted_sum : (z : ℤ) → mag z < 2 ^ 31 → z +ℤ pos 2147483648 ≡ pos (lifted z)
 unfolding lifted
 lifted_sum (pos n) h = refl
 lifted_sum (negsuc n) h =
@@ -47,17 +43,6 @@ pub lifted_below : (z : ℤ) → mag z < 2 ^ 31 → lifted z < 2 ^ 32
 unfolding lifted
 lifted_below (pos n) h = omega arith
 lifted_below (negsuc n) h = omega arith
-
-module _ {z : ℤ} (f : SFits w32 z) where
-  lifted_fits : SFits w64 (pos (lifted z))
-  lifted_fits = record { sfits = omega (arith, lifted_below z f.sfits) }
-
-  -- as the locals hold it
-  pub sum_fits : SFits w64 (as64 z +ℤ pos 2147483648)
-  sum_fits = rw (as64_is f, lifted_sum z f.sfits) lifted_fits
-
-  pub sum_is : to_z w64 (of_z w64 (as64 z +ℤ pos 2147483648)) ≡ pos (lifted z)
-  sum_is = to_z-of_z sum_fits ∙ ap (λ (x : ℤ). x +ℤ pos 2147483648) (as64_is f) ∙ lifted_sum z f.sfits
 
 -- a local's number, lifted
 pub lifted_local : (z : ℤ) {r : ℕ} → mag z < 2 ^ 31 → r ≡ lifted (to_z w32 (of_z w32 z)) → r ≡ lifted z

@@ -1,13 +1,12 @@
 -- Unique tables: what lent columns and an index of hash chains hold. Definitions only; their laws are in proofs/Chains.antt,
 -- proofs/NodeTables.antt and proofs/ValueTables.antt.
-use Rattle.std.specs.Prelude.{◌≡◌, Bool, cond, List, [], ◌∷◌, ◌++◌, ℕ, zero, suc, ◌+◌, ◌*◌, ◌-◌, ◌/◌, ◌%◌, ◌<◌, ◌≤◌, eqb, ltb, ℤ, pos, negsuc, length, get_or, set, drop}
+use Rattle.std.specs.Prelude.{◌≡◌, Bool, cond, List, [], ◌∷◌, ◌++◌, Option, Some, None, ℕ, zero, suc, ◌+◌, ◌*◌, ◌-◌, ◌/◌, ◌%◌, ◌<◌, ◌≤◌, eqb, ltb}
+use Rattle.std.specs.Prelude.{ℤ, pos, negsuc, length, get_or, drop}
 use Rattle.algebra.specs.declared.Entry.{Entry}
-use Rattle.algebra.specs.Entry.{entry, 𝟘}
+use Rattle.algebra.specs.Entry.{𝟘}
+use Rattle.uniques.specs.declared.NodeTable.{NodeTable}
+use Rattle.uniques.specs.declared.ValueTable.{ValueTable}
 use Rattle.diagrams.specs.Diagram.{Node, branch, unused, code, ref_of, Distinct, slot, keep, same_node, same_entry}
-
--- what is answered where a slot is missing: no reference is as large
-abbrev pub full : ℕ
-full = 4294967293
 
 -- ---- what the first slots hold
 
@@ -45,15 +44,15 @@ module _ {A : Type 0} (hash : A → ℕ) (blank : A) where
     pub head : (h : ℕ) → h < heads → get_or index (N + h) 0 ≡ last_with (hash_at l) h (length l)
     pub next : (i : ℕ) → i < length l → get_or index i 0 ≡ last_with (hash_at l) (hash_at l i) i
 
--- 1 + the slot at which an element is found, or 0
-abbrev pub found : {A : Type 0} → (A → A → Bool) → A → List A → ℕ
-found same x l = cond (ltb (slot same x l) (length l)) (suc (slot same x l)) 0
+-- the slot at which an element is found, if it is there
+abbrev pub found : {A : Type 0} → (A → A → Bool) → A → List A → Option ℕ
+found same x l = cond (ltb (slot same x l) (length l)) (Some (slot same x l)) None
 
 -- An element is found or appended: r is what is answered, `answer` the reference of a slot.
-pub record Put {A : Type 0} (same : A → A → Bool) (answer : ℕ → ℕ) (N : ℕ) (x : A) (l : List A) (r : ℕ)
+pub record Put {A : Type 0} (same : A → A → Bool) (answer : ℕ → ℕ) (N : ℕ) (x : A) (l : List A) (r : Option ℕ)
     (Held : List A → Type 0) (Unchanged : Type 0) : Type 0 where
-  pub kept : length (keep same x l) ≤ N → (r ≡ answer (slot same x l)) × Held (keep same x l)
-  pub missing : N < length (keep same x l) → (r ≡ full) × Unchanged
+  pub kept : length (keep same x l) ≤ N → (r ≡ Some (answer (slot same x l))) × Held (keep same x l)
+  pub missing : N < length (keep same x l) → (r ≡ None) × Unchanged
 
 -- ---- nodes
 
@@ -70,24 +69,52 @@ pub record NodesHeld (N heads : ℕ) (ns : List Node) (level low high index : Li
   pub nodes : nodes_in (length ns) level low high ≡ ns
   pub indexed : Indexed (node_hash heads) unused N heads ns index
 
--- What `make_node` leaves: r is its answer, and the columns with ' are those after it.
-module _ (level low high index level' low' high' index' : List ℕ) where
+-- the nodes of a table, and that its index finds them
+abbrev pub table_nodes : NodeTable → List Node
+table_nodes t = nodes_in t.used t.level.now t.low.now t.high.now
+
+abbrev pub NodeTableHeld : NodeTable → Type 0
+NodeTableHeld t = NodesHeld (length t.level.now) t.heads (table_nodes t) t.level.now t.low.now t.high.now t.index.now
+
+-- with what the chain on which a node is begins
+abbrev pub node_chain : NodeTable → Node → ℕ
+node_chain t n = get_or t.index.now (length t.level.now + node_hash t.heads n) 0
+
+-- What `make` of a table leaves: r is its answer, and t' the table after it.
+module _ (t t' : NodeTable) where
+  -- the same columns are lent, of the same lengths, for as many chains
+  pub record SameNodeTable : Type 0 where
+    pub level : t'.level.ghost_name ≡ t.level.ghost_name
+    pub low : t'.low.ghost_name ≡ t.low.ghost_name
+    pub high : t'.high.ghost_name ≡ t.high.ghost_name
+    pub index : t'.index.ghost_name ≡ t.index.ghost_name
+    pub level_long : length t'.level.now ≡ length t.level.now
+    pub low_long : length t'.low.now ≡ length t.low.now
+    pub high_long : length t'.high.now ≡ length t.high.now
+    pub index_long : length t'.index.now ≡ length t.index.now
+    pub heads : t'.heads ≡ t.heads
+
   abbrev pub NodesUnchanged : Type 0
-  NodesUnchanged = (level' ≡ level) × (low' ≡ low) × (high' ≡ high) × (index' ≡ index)
+  NodesUnchanged =
+      (t'.level.now ≡ t.level.now) × (t'.low.now ≡ t.low.now) × (t'.high.now ≡ t.high.now) × (t'.index.now ≡ t.index.now) × (t'.used ≡ t.used)
 
   -- the slots from k on are as they were
   abbrev pub NodesPast : ℕ → Type 0
-  NodesPast k = (drop k level' ≡ drop k level) × (drop k low' ≡ drop k low) × (drop k high' ≡ drop k high)
+  NodesPast k = (drop k t'.level.now ≡ drop k t.level.now) × (drop k t'.low.now ≡ drop k t.low.now) × (drop k t'.high.now ≡ drop k t.high.now)
+
+  -- these are its nodes, and the slots past them are as they were
+  abbrev pub NodesMade : List Node → Type 0
+  NodesMade ns' =
+      NodesHeld (length t.level.now) t.heads ns' t'.level.now t'.low.now t'.high.now t'.index.now × NodesPast (length ns') × (t'.used ≡ length ns')
 
   -- found or appended
-  abbrev pub NodePut : (N heads : ℕ) (n : Node) (ns : List Node) (r : ℕ) → Type 0
-  NodePut N heads n ns r =
-      Put same_node (λ i. 2 * i + 1) N n ns r (λ ns'. NodesHeld N heads ns' level' low' high' index' × NodesPast (length ns')) NodesUnchanged
+  abbrev pub NodePut : Node → Option ℕ → Type 0
+  NodePut n r = Put same_node (λ i. 2 * i + 1) (length t.level.now) n (table_nodes t) r NodesMade NodesUnchanged
 
   -- "no node whose low and high are alike"
-  pub record NodeMade (N heads : ℕ) (n : Node) (ns : List Node) (r : ℕ) : Type 0 where
-    pub alike : n.low ≡ n.high → (r ≡ code n.low) × NodesUnchanged
-    pub apart : (n.low ≡ n.high → ⊥) → NodePut N heads n ns r
+  pub record NodeMade (n : Node) (r : Option ℕ) : Type 0 where
+    pub alike : n.low ≡ n.high → (r ≡ Some (code n.low)) × NodesUnchanged
+    pub apart : (n.low ≡ n.high → ⊥) → NodePut n r
 
 -- ---- terminals
 
@@ -100,25 +127,49 @@ unfoldable pub value_hash : ℕ → Entry → ℕ
 value_hash heads e =
     (lifted e.a * 506952121 + lifted e.b * 313699893 + lifted e.c * 384368313 + lifted e.d * 461845907) / 16777216 % 65536 * heads / 65536
 
--- the numbers of entry j stand in the slots 4j to 4j + 3
-abbrev pub entry_in : List ℤ → ℕ → Entry
-entry_in vals j = entry (get_or vals (4 * j) (pos 0)) (get_or vals (4 * j + 1) (pos 0)) (get_or vals (4 * j + 2) (pos 0)) (get_or vals (4 * j + 3) (pos 0))
+abbrev pub value_in : List Entry → ℕ → Entry
+value_in vals j = get_or vals j 𝟘
 
-abbrev pub with_entry : List ℤ → ℕ → Entry → List ℤ
-with_entry vals j e = set (set (set (set vals (4 * j) e.a) (4 * j + 1) e.b) (4 * j + 2) e.c) (4 * j + 3) e.d
-
-abbrev pub values_in : ℕ → List ℤ → List Entry
-values_in used vals = listed used (entry_in vals)
+-- the terminals in the first slots
+abbrev pub values_in : ℕ → List Entry → List Entry
+values_in used vals = listed used (value_in vals)
 
 -- the slots hold these terminals, and the index finds them
-pub record ValuesHeld (L heads : ℕ) (vs : List Entry) (vals : List ℤ) (index : List ℕ) : Type 0 where
-  pub vals_long : length vals ≡ 4 * L
+pub record ValuesHeld (L heads : ℕ) (vs : List Entry) (vals : List Entry) (index : List ℕ) : Type 0 where
+  pub vals_long : length vals ≡ L
   pub values : values_in (length vs) vals ≡ vs
   pub indexed : Indexed (value_hash heads) 𝟘 L heads vs index
 
--- What `make_value` leaves: r is its answer, and the slots with ' are those after it.
-abbrev pub ValueMade : (vals : List ℤ) (index : List ℕ) (vals' : List ℤ) (index' : List ℕ) (L heads : ℕ) (e : Entry) (vs : List Entry) (r : ℕ) → Type 0
-ValueMade vals index vals' index' L heads e vs r =
-    Put same_entry (λ j. 2 * j) L e vs r
-    (λ vs'. ValuesHeld L heads vs' vals' index' × (drop (4 * length vs') vals' ≡ drop (4 * length vs') vals))
-    ((vals' ≡ vals) × (index' ≡ index))
+-- the terminals of a table, and that its index finds them
+abbrev pub table_values : ValueTable → List Entry
+table_values t = values_in t.used t.terminals.now
+
+abbrev pub ValueTableHeld : ValueTable → Type 0
+ValueTableHeld t = ValuesHeld (length t.terminals.now) t.heads (table_values t) t.terminals.now t.index.now
+
+-- with what the chain on which a terminal is begins
+abbrev pub value_chain : ValueTable → Entry → ℕ
+value_chain t e = get_or t.index.now (length t.terminals.now + value_hash t.heads e) 0
+
+-- What `make` of a table leaves: r is its answer, and t' the table after it.
+module _ (t t' : ValueTable) where
+  -- the same slots are lent, as many, for as many chains
+  pub record SameValueTable : Type 0 where
+    pub terminals : t'.terminals.ghost_name ≡ t.terminals.ghost_name
+    pub index : t'.index.ghost_name ≡ t.index.ghost_name
+    pub terminals_long : length t'.terminals.now ≡ length t.terminals.now
+    pub index_long : length t'.index.now ≡ length t.index.now
+    pub heads : t'.heads ≡ t.heads
+
+  abbrev pub ValuesUnchanged : Type 0
+  ValuesUnchanged = (t'.terminals.now ≡ t.terminals.now) × (t'.index.now ≡ t.index.now) × (t'.used ≡ t.used)
+
+  -- these are its terminals, and the slots past them are as they were
+  abbrev pub ValuesMade : List Entry → Type 0
+  ValuesMade vs' =
+      ValuesHeld (length t.terminals.now) t.heads vs' t'.terminals.now t'.index.now
+      × (drop (length vs') t'.terminals.now ≡ drop (length vs') t.terminals.now)
+      × (t'.used ≡ length vs')
+
+  abbrev pub ValueMade : Entry → Option ℕ → Type 0
+  ValueMade e r = Put same_entry (λ j. 2 * j) (length t.terminals.now) e (table_values t) r ValuesMade ValuesUnchanged

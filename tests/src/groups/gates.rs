@@ -24,8 +24,9 @@ const RULES: &str = "crates/gates/specs/Rule.antt";
 const DECISION: &str = "crates/gates/src/lib.rt";
 const FILES: [&str; 4] = [GATES, GATES, RULES, DECISION];
 
-/// What stands between a case's name and its data in the decision.
-const KNOWN: &str = " => Decision::Known(";
+/// How a case begins in the decision, before its name, and what stands between the name and its data.
+const CASE: &str = "Code::";
+const DATA: &str = " =>";
 
 /// Refusals, and the offsets of what they name in the list of one gate.
 const UNKNOWN_CODE: u32 = 7;
@@ -74,7 +75,7 @@ pub fn run(tally: &mut Tally, home: &Path) {
         tally.case(&format!("GATES, {name}, inverse"), || check_inverse(gate));
         tally.case(&format!("GATES, {name} on the right"), || check_right(gate, &gates));
         tally.case(&format!("GATES, {name} on the left"), || check_left(gate));
-        tally.case(&format!("GATES, {name}, constant"), || check_constant(gate, &decision));
+        tally.case(&format!("GATES, {name}, number"), || check_number(gate, &decision));
         tally.case(&format!("GATES, {name}, names"), || check_names(gate));
         for ((file, source), line) in FILES.iter().zip(&sources).zip(&gate.lines) {
             tally.case(&format!("GATES, {name}, {file}"), || check_line(source, line));
@@ -230,21 +231,25 @@ fn matrix(gate: &Row) -> Matrix {
 
 /// The page's rows are the cases of the decision, in their order.
 fn check_order(gates: &[Row], decision: &str) -> Checked {
-    let cases: Vec<&str> =
-        decision.lines().filter_map(|line| line.split_once(KNOWN)).map(|(case, _)| case.trim()).collect();
+    let cases: Vec<&str> = decision.lines().filter_map(|line| case_of(line.trim())).collect();
     let listed: Vec<&str> = gates.iter().map(case).collect();
     alike("cases", listed.join(" "), cases.join(" "))
 }
 
 /// The name of a gate's case.
 fn case(gate: &Row) -> &str {
-    gate.lines.last().map_or("", |(_, start)| start.trim_end_matches(" =>"))
+    gate.lines.last().and_then(|(_, start)| case_of(start)).unwrap_or_default()
 }
 
-/// The case is named by a constant, which is the code.
-fn check_constant(gate: &Row, decision: &str) -> Checked {
-    let constant = format!("const {}: u32 = {};", case(gate), gate.code);
-    if decision.lines().any(|line| line == constant) { Ok(()) } else { Err(format!("no line '{constant}'")) }
+/// The name of the case that begins so, if it is one.
+fn case_of(start: &str) -> Option<&str> {
+    start.strip_prefix(CASE)?.split_once(DATA).map(|(name, _)| name)
+}
+
+/// The case is named by a variant, whose number is the code.
+fn check_number(gate: &Row, decision: &str) -> Checked {
+    let variant = format!("    {} = {},", case(gate), gate.code);
+    if decision.lines().any(|line| line == variant) { Ok(()) } else { Err(format!("no line '{variant}'")) }
 }
 
 /// The lines of definitions are those of this gate.

@@ -1,9 +1,10 @@
 -- `circuits::below_count` meets its contract: a shift is a division by a power of two. Assumes nothing.
-use Rattle.circuits.proofs.Masks.{all_below, nothing_left}
+use mathlib.Core.Path.{◌∙◌, ap}
+use Prim.Native.Nat.{ℕ}
+use lib.Dec.{eqb}
+use Rattle.circuits.proofs.Masks.{shifted, nothing_left}
 use Rattle.circuits.proofs.below_count.Goals as goal
 
-pub returns-then-n-lt-BITS : goal.returns-then-n-lt-BITS
-returns-then-n-lt-BITS c = nothing_left c.args.mask c.args.n
-
 pub returns : goal.returns
-returns c = all_below _ _ c.ranges.mask.fits c.if-n-lt-BITS.false
+returns c =
+    ap (λ (m : ℕ). eqb m 0) (c.unwrap_or.ensures ∙ shifted _ _ _ c.ranges.mask.fits c.checked_shr.ensures) ∙ nothing_left c.args.mask c.args.n

@@ -1,28 +1,26 @@
 -- `lists::check_gates` meets its contract. The loop's invariant: the list's answer is that of the gates still to be read, from
--- the present offset on. The measure is the number of those gates.
+-- the reader's offset on.
 -- Assumes nothing.
-use mathlib.Core.Path.{sym, ◌∙◌}
-use Rattle.circuits.specs.Reading.{gate}
-use Rattle.circuits.proofs.Answers.{gate_read, gate_refused}
-use Rattle.lists.proofs.Lists.{left_all, left_refused, left_read, left_over, left_none}
+use Prim.Native.Nat.{◌+◌, ◌-◌}
+use native.Mathlib.Omega.{arith}
+use Rattle.std.proofs.Common.{rules}
+use Rattle.lists.proofs.Lists.{left_first, left_next, left_refusal, left_bytes, left_end}
 use Rattle.lists.proofs.check_gates.Goals as goal
 
-pub loop-left-init : goal.loop-left-init
-loop-left-init c = left_all _ _ _ _
+pub loop-init : goal.loop-init
+loop-init c = left_first _ _ _ _ (omega arith)
 
-pub returns-in-Refused : goal.returns-in-Refused
-returns-in-Refused c =
-    sym
-    (c.loop-left.invariant
-    ∙ left_refused _ _ _ _ _ _ c.loop-left-test.true (gate_refused (gate _ _ _) c.gate_at.ensures c.in-Refused.is))
+pub returns-in_err-gate : goal.returns-in_err-gate
+returns-in_err-gate c =
+    let rest = c.args.gates - (c.loop.counter + 1) in
+    let e = left_refusal _ _ _ _ _ c.loop.invariant rest (omega (arith, c.loop-test.true)) _ _ c.gate.ensures c.in_err-gate.was in
+    search (rules, e)
 
-pub loop-left-preserved : goal.loop-left-preserved
-loop-left-preserved c =
-    c.loop-left.invariant
-    ∙ left_read _ _ _ _ _ _ c.loop-left-test.true (gate_read (gate _ _ _) c.gate_at.ensures c.in-Gate.is).was_read
+pub loop-preserved : goal.loop-preserved
+loop-preserved c = left_next _ _ _ _ _ c.loop.invariant _ (omega (arith, c.loop-test.true)) _ _ c.gate.ensures c.in_ok-gate.was
 
-pub returns-then-at-bytes : goal.returns-then-at-bytes
-returns-then-at-bytes c = sym (c.loop-left.invariant ∙ left_over _ _ _ _ _ _ c.loop-left-test.false c.if-at-bytes.true)
+pub returns-then-reader : goal.returns-then-reader
+returns-then-reader c = left_bytes _ _ _ _ _ c.loop.invariant (omega (arith, c.loop-test.false)) c.if-reader.true
 
-pub returns-else-at-bytes : goal.returns-else-at-bytes
-returns-else-at-bytes c = sym (c.loop-left.invariant ∙ left_none _ _ _ _ _ _ c.loop-left-test.false c.if-at-bytes.false)
+pub returns : goal.returns
+returns c = left_end _ _ _ _ _ c.loop.invariant (omega (arith, c.loop-test.false)) c.if-reader.false

@@ -1,30 +1,13 @@
--- `lowerings::all_divisible` meets its contract. The loop's invariant: the terminals passed are multiples of √2.
--- The measure is what is left. Assumes nothing.
-use mathlib.Core.Path.{◌∙◌, ap}
-use native.Mathlib.Omega.{arith}
+-- `lowerings::all_divisible` meets its contract. Assumes nothing.
+use Rattle.std.proofs.Common.{◌∙◌, take, rules}
+use Rattle.std.proofs.lemmas.Iterator.{YieldsList-from_slice}
+use Rattle.std.proofs.lemmas.Iterator.Search.{all_from_yields_List}
 use Rattle.algebra.specs.Division.{divisible}
-use Rattle.lowerings.proofs.Lowerings.{passing_none, passing_next, passing_fails, passing_all}
+use Rattle.lowerings.proofs.Lowerings.{every_used}
 use Rattle.lowerings.proofs.all_divisible.Goals as goal
 
-pub loop-j-init : goal.loop-j-init
-loop-j-init c = passing_none divisible _ _
-
-pub read_value-requires : goal.read_value-requires
-read_value-requires c = omega (arith, c.loop-j-test.true, c.requires)
-
-pub returns-then-not-divisible : goal.returns-then-not-divisible
-returns-then-not-divisible c =
-    passing_fails divisible _ c.loop-j-test.true (c.divisible.ensures ∙ ap divisible c.read_value.ensures) c.if-not-divisible.true
-
-pub overflow_add-j : goal.overflow_add-j
-overflow_add-j c = omega (arith, c.loop-j-test.true, c.ranges.used)
-
-pub loop-j-smaller : goal.loop-j-smaller
-loop-j-smaller c = omega (arith, c.loop-j-test.true)
-
-pub loop-j-preserved : goal.loop-j-preserved
-loop-j-preserved c =
-    passing_next divisible _ c.loop-j.invariant c.loop-j-test.true (c.divisible.ensures ∙ ap divisible c.read_value.ensures) c.if-not-divisible.false
-
 pub returns : goal.returns
-returns c = passing_all divisible _ c.loop-j.invariant c.loop-j-test.false
+returns c =
+    let at = c.args in
+    all_from_yields_List divisible _ _ _ c.all.ensures.ran (YieldsList-from_slice (take at.used at.terminals.now) (cc)) (λ x b q k. search rules)
+    ∙ every_used divisible at.terminals.now at.used c.requires

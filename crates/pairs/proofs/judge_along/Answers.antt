@@ -8,4 +8,4 @@ use Rattle.pairs.proofs.judge_along.Goals as goal
 pub returns : goal.returns
 unfolding along_report store cleared
 returns c =
-    ap (λ (o : Outcome). o.report) c.judge.ensures
+    ap (λ (o : Outcome). o.report) c.judge.ensures.answer

@@ -6,5 +6,5 @@ use Rattle.products.proofs.multiply.Goals as goal
 pub row-requires : goal.row-requires
 row-requires c = starts _ _ _ _ c.requires.task _ _ c.requires.fresh c.slot-at.ensures
 
-pub returns : goal.returns
-returns c task = steps _ _ _ _ task _ _ c.requires.fresh c.row.ensures
+pub returns-clause-multiplied : goal.returns-clause-multiplied
+returns-clause-multiplied c task = steps _ _ _ _ task _ _ c.requires.fresh c.row.ensures.walked

@@ -1,73 +1,64 @@
--- `runs::follow` meets its contract. The loop's invariant: the lengths are kept, and i steps are taken, whose diagram is in the
--- current store. The measure is the number of steps left.
+-- `runs::follow` meets its contract: each step is refused, which ends the run, or taken.
 -- Assumes nothing.
-use mathlib.Core.Path.{refl}
+use mathlib.Core.Path.{◌≡◌, refl}
 use native.Mathlib.Omega.{arith}
+use Rattle.std.proofs.Common.{Ok}
+use Rattle.std.proofs.lemmas.Grind.{common_steps}
+use Rattle.std.proofs.lemmas.Result.{err_from_is_err_and}
+use Rattle.miters.specs.declared.Refusal.TheVariants.{Step as at_step}
+use Rattle.plans.specs.declared.Used.{Used}
+use Rattle.runs.proofs.Turns.{fault_of}
 use Rattle.runs.proofs.Loops.{few_steps, turning_starts, turning_ends, step_task, turning_stops, turning_on}
 use Rattle.runs.proofs.follow.Goals as goal
 
 -- ---- before the loop
 
-pub overflow_mul-tally : goal.overflow_mul-tally
-overflow_mul-tally c = omega (arith, c.requires.task.within_u.few_qubits)
-
 pub loop-i-init : goal.loop-i-init
-loop-i-init c = turning_starts _ _ _ _ _ _ _ _ _ _ refl refl
+loop-i-init c = turning_starts _ _ _ _ _ _ _ _ _ _ refl refl refl refl
 
 -- ---- a turn
 
 pub advance-requires : goal.advance-requires
 advance-requires c =
-    step_task _ _ _ _ _ _ _ _ _ c.loop-i.invariant c.loop-i-test.true _ c.choose-next.ensures c.requires
+    step_task _ _ _ _ _ _ _ _ _ c.loop-i.invariant c.loop-i-test.true c.choose-action.ensures c.requires
 
-pub overflow_cast-i : goal.overflow_cast-i
-overflow_cast-i c = omega (arith, c.loop-i-test.true, few_steps _ _ _ _ _ _ _ _ _ c.requires)
+pub overflow_cast-finished : goal.overflow_cast-finished
+overflow_cast-finished c = omega (arith, c.loop-i-test.true, few_steps _ _ _ _ _ _ c.args.first.now c.args.second.now _ c.requires)
 
 -- a step that is refused
-pub returns-then-tally-ne0 : goal.returns-then-tally-ne0
-returns-then-tally-ne0 c =
-    turning_stops _ _ _ _ _ _ _ _ _ c.loop-i.invariant c.loop-i-test.true _ c.choose-next.ensures _ _ c.advance.ensures
-    c.if-tally-ne0.true c.refused_step.ensures
+pub returns-in_err-used-clause-followed : goal.returns-in_err-used-clause-followed
+returns-in_err-used-clause-followed c =
+    let p = err_from_is_err_and c.from_residual.result c.from_residual.ensures.1 in
+    let no_product : (x : Used) → c.advance.result ≡ Ok x → ⊥ = λ x e. grind (arith, common_steps) in
+    let (fault, stops) = fault_of c.advance.result no_product in
+    let is : c.in_err-used.field-0.0 ≡ at_step fault c.loop-i.i = grind (arith, common_steps) in
+    rw (p.1, p.2, is)
+    (turning_stops _ _ _ _ _ _ _ _ _ c.loop-i.invariant c.loop-i-test.true c.choose-action.ensures
+    c.advance.new.first c.advance.new.second c.advance.ensures.left stops)
 
 -- a step that is taken
 pub loop-i-preserved : goal.loop-i-preserved
 loop-i-preserved c =
-    turning_on _ _ _ _ _ _ _ _ _ c.loop-i.invariant c.loop-i-test.true _ c.choose-next.ensures _ _ c.advance.ensures
-    _ c.if-tally-ne0.false c.halves-exponent.ensures
-    (record {
-      of_level = c.advance.auto.level;
-      of_low = c.advance.auto.low;
-      of_high = c.advance.auto.high;
-      of_a = c.advance.auto.a;
-      of_b = c.advance.auto.b;
-      of_c = c.advance.auto.c;
-      of_d = c.advance.auto.d;
-    })
-    (record {
-      of_level = c.advance.auto.other_level;
-      of_low = c.advance.auto.other_low;
-      of_high = c.advance.auto.other_high;
-      of_a = c.advance.auto.other_a;
-      of_b = c.advance.auto.other_b;
-      of_c = c.advance.auto.other_c;
-      of_d = c.advance.auto.other_d;
-    })
-    (record {
-      of_terminals = c.advance.auto.terminals;
-      of_nodes = c.advance.auto.node_index;
-      of_values = c.advance.auto.value_index;
-      of_memo = c.advance.auto.memo;
-    })
+    let going : c.advance.result ≡ Ok c.in_ok-used.used = grind (arith, common_steps) in
+    turning_on _ _ _ _ _ _ _ _ _ c.loop-i.invariant c.loop-i-test.true c.choose-action.ensures
+    c.advance.new.first c.advance.new.second c.advance.ensures.left
+    _ going c.halves-exponent.ensures
+    c.advance.ensures.same_first c.advance.ensures.same_second c.advance.ensures.same_scratch
 
 -- the next turn's invariant knows that the exponent is small
 pub overflow_add-exponent : goal.overflow_add-exponent
 overflow_add-exponent c =
-    omega (arith, ((loop-i-preserved c).runs c.requires).few, c.loop-i-test.true, few_steps _ _ _ _ _ _ _ _ _ c.requires)
+    omega (
+      arith,
+      ((loop-i-preserved c).runs c.requires).few,
+      c.loop-i-test.true,
+      few_steps _ _ _ _ _ _ c.args.first.now c.args.second.now _ c.requires,
+    )
 
 -- ---- after the loop
 
 pub overflow_cast-result : goal.overflow_cast-result
-overflow_cast-result c = omega (arith, (c.loop-i.invariant.runs c.requires).within, few_steps _ _ _ _ _ _ _ _ _ c.requires)
+overflow_cast-result c = omega (arith, few_steps _ _ _ _ _ _ c.args.first.now c.args.second.now _ c.requires)
 
-pub returns : goal.returns
-returns c s = turning_ends _ _ _ _ _ _ _ _ _ c.loop-i.invariant c.loop-i-test.false s
+pub returns-clause-followed : goal.returns-clause-followed
+returns-clause-followed c s = turning_ends _ _ _ _ _ _ _ _ _ c.loop-i.invariant c.loop-i-test.false s

@@ -7,22 +7,22 @@ pub corner_of-corner-requires : goal.corner_of-corner-requires
 corner_of-corner-requires c = root_descends _ _ _ _ c.requires
 
 pub value_at-factor-requires : goal.value_at-factor-requires
-value_at-factor-requires c = corner_there _ _ _ _ c.requires c.corner_of-corner.ensures c.zero_of-zero.ensures
+value_at-factor-requires c = corner_there _ _ _ _ c.requires c.corner_of-corner.ensures c.zero-zero.ensures
 
 pub ask_row-requires : goal.ask_row-requires
 ask_row-requires c =
-    root_ready _ _ _ _ c.requires c.corner_of-corner.ensures c.zero_of-zero.ensures
+    root_ready _ _ _ _ c.requires c.corner_of-corner.ensures c.zero-zero.ensures
 
 pub value_at-requires : goal.value_at-requires
 value_at-requires c =
-    found_there _ _ _ _ c.requires c.corner_of-corner.ensures c.zero_of-zero.ensures c.ask_row.ensures c.in-At.is
+    found_there _ _ _ _ c.requires c.corner_of-corner.ensures c.zero-zero.ensures c.ask_row.ensures c.in-Some.is
 
-pub returns-in-Nowhere : goal.returns-in-Nowhere
-returns-in-Nowhere c =
-    found_equal _ _ _ _ c.requires c.corner_of-corner.ensures c.zero_of-zero.ensures
-    c.ask_row.ensures c.in-Nowhere.is c.value_at-factor.ensures
+pub returns-in-None : goal.returns-in-None
+returns-in-None c =
+    found_equal _ _ _ _ c.requires c.corner_of-corner.ensures c.zero-zero.ensures
+    c.ask_row.ensures c.in-None.is c.value_at-factor.ensures
 
-pub returns-in-At : goal.returns-in-At
-returns-in-At c =
-    found_different _ _ _ _ c.requires c.corner_of-corner.ensures c.zero_of-zero.ensures
-    c.ask_row.ensures c.in-At.is c.value_at.ensures c.value_at-factor.ensures
+pub returns-in-Some : goal.returns-in-Some
+returns-in-Some c =
+    found_different _ _ _ _ c.requires c.corner_of-corner.ensures c.zero-zero.ensures
+    c.ask_row.ensures c.in-Some.is c.value_at.ensures c.value_at-factor.ensures

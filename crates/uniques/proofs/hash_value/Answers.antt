@@ -1,11 +1,8 @@
 -- `uniques::hash_value` meets its contract: no sum wraps. Assumes nothing.
-use Rattle.uniques.specs.UniqueTable.{value_hash}
 use borrow.Author.Rules.{rules}
-use Rattle.uniques.proofs.Hashes.{scaled_fits, lifted_local}
+use Rattle.uniques.specs.UniqueTable.{value_hash}
+use Rattle.uniques.proofs.Hashes.{lifted_local}
 use Rattle.uniques.proofs.hash_value.Goals as goal
-
-pub overflow_mul-result : goal.overflow_mul-result
-overflow_mul-result c = record { fits = scaled_fits _ _ c.ranges.heads.fits }
 
 pub returns : goal.returns
 unfolding value_hash
@@ -16,4 +13,5 @@ returns c =
       lifted_local e.b (search rules) c.lifted-2.ensures.0,
       lifted_local e.c (search rules) c.lifted-3.ensures.0,
       lifted_local e.d (search rules) c.lifted-4.ensures.0,
+      c.from.ensures,
     )

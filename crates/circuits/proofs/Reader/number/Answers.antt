@@ -1,0 +1,22 @@
+-- `circuits::Reader::number` meets its contract: byte by byte it is the definition's number. Assumes nothing.
+use Rattle.std.proofs.Common.{rules}
+use Rattle.circuits.proofs.Numbers.{number_said}
+use Rattle.circuits.proofs.Reader.number.Goals as goal
+
+pub returns-in_err-byte : goal.returns-in_err-byte
+returns-in_err-byte c = number_said _ _ _ _ _ (search rules)
+
+pub returns-then-x-lt128 : goal.returns-then-x-lt128
+returns-then-x-lt128 c = number_said _ _ _ _ _ (search rules)
+
+pub returns-in_err-byte-2 : goal.returns-in_err-byte-2
+returns-in_err-byte-2 c = number_said _ _ _ _ _ (search rules)
+
+pub returns-then-y-lt128 : goal.returns-then-y-lt128
+returns-then-y-lt128 c = number_said _ _ _ _ _ (search rules)
+
+pub returns-in_err-byte-3 : goal.returns-in_err-byte-3
+returns-in_err-byte-3 c = number_said _ _ _ _ _ (search rules)
+
+pub returns : goal.returns
+returns c = number_said _ _ _ _ _ (search rules)

@@ -1,5 +1,0 @@
--- The measure of `reports::put_digits` is the number.
-use Rattle.reports.proofs.+put_digits.Given as goal
-
-abbrev pub decreases-put_digits : goal.decreases-put_digits
-decreases-put_digits l = l.n

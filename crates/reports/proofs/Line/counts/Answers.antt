@@ -1,0 +1,8 @@
+-- `reports::Line::counts` meets its contract: the four counts in turn. Assumes nothing.
+use Rattle.reports.specs.Line.{counts}
+use Rattle.reports.proofs.Puts.{put_then}
+use Rattle.reports.proofs.Line.counts.Goals as goal
+
+pub returns : goal.returns
+unfolding counts
+returns c = put_then (put_then (put_then c.named.ensures c.named-2.ensures) c.named-3.ensures) c.named-4.ensures
