@@ -17,7 +17,9 @@ by_steps P z s p k =
 
 add-*ℤ : (a b c : ℤ) → (a +ℤ b) *ℤ c ≡ a *ℤ c +ℤ b *ℤ c
 add-*ℤ a b c =
-    by_steps Law start (carried suc_ℤ c (λ k. suc_ℤ-+ℤ k b) (λ k. suc_ℤ-*ℤ k c)) (carried pred_ℤ (neg_ℤ c) (λ k. pred_ℤ-+ℤ k b) (λ k. pred_ℤ-*ℤ k c)) a
+    by_steps Law start
+    (carried suc_ℤ c (λ k. suc_ℤ-+ℤ k b) (λ k. suc_ℤ-*ℤ k c))
+    (carried pred_ℤ (neg_ℤ c) (λ k. pred_ℤ-+ℤ k b) (λ k. pred_ℤ-*ℤ k c)) a
   where
     Law : ℤ → Type 0
     Law k = (k +ℤ b) *ℤ c ≡ k *ℤ c +ℤ b *ℤ c
@@ -28,7 +30,8 @@ add-*ℤ a b c =
     last_to_middle : (x y z : ℤ) → x +ℤ y +ℤ z ≡ x +ℤ z +ℤ y
     last_to_middle x y z = +ℤ_assoc x y z ∙ ap (λ w. x +ℤ w) (+ℤ_comm y z) ∙ sym (+ℤ_assoc x z y)
 
-    carried : (step : ℤ → ℤ) (d : ℤ) → ((k : ℤ) → step k +ℤ b ≡ step (k +ℤ b)) → ((k : ℤ) → step k *ℤ c ≡ k *ℤ c +ℤ d) → (k : ℤ) → Law k → Law (step k)
+    carried : (step : ℤ → ℤ) (d : ℤ) → ((k : ℤ) → step k +ℤ b ≡ step (k +ℤ b)) → ((k : ℤ) → step k *ℤ c ≡ k *ℤ c +ℤ d)
+        → (k : ℤ) → Law k → Law (step k)
     carried step d sum product k h =
         (step k +ℤ b) *ℤ c ≡⟨ ap (λ x. x *ℤ c) (sum k) ∙ product (k +ℤ b) ⟩
         (k +ℤ b) *ℤ c +ℤ d ≡⟨ ap (λ x. x +ℤ d) h ∙ last_to_middle (k *ℤ c) (b *ℤ c) d ⟩

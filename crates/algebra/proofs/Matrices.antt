@@ -105,7 +105,8 @@ product_identity n A =
     A ■
 
 -- where A-as-B is z times the identity, A·(B-as-C) is z times C
-pub product_absorb : (n : ℕ) (A B C : Matrix) (z : Entry) → Alike n (product n A B) (scaled z identity) → Alike n (product n A (product n B C)) (scaled z C)
+pub product_absorb : (n : ℕ) (A B C : Matrix) (z : Entry) → Alike n (product n A B) (scaled z identity)
+    → Alike n (product n A (product n B C)) (scaled z C)
 product_absorb n A B C z h =
     product n A (product n B C) ≈⟨ alike_of (sym (product_assoc n A B C)) ⟩
     product n (product n A B) C ≈⟨ product_alike n h (C ■) ⟩

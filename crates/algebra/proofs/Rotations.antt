@@ -7,7 +7,7 @@ use native.Mathlib.Omega.{arith}
 use lib.IntN.{neg_ℤ-neg_ℤ}
 use Rattle.algebra.specs.declared.Entry.{Entry}
 use Rattle.algebra.specs.Entry.{entry, times_w8, turned}
-use Rattle.algebra.specs.Wide.{part}
+use Rattle.algebra.specs.Numbers.{part}
 
 module _ (x : Entry) where
   part_eight : (m : ℕ) → part x (suc (suc (suc (suc (suc (suc (suc (suc m)))))))) ≡ part x m

@@ -68,7 +68,9 @@ total-⊕ (suc n) f g =
 pub ⊗-total : (n : ℕ) (x : Entry) (f : Bits → Entry) → x ⊗ total n f ≡ total n (λ l. x ⊗ f l)
 unfolding total
 ⊗-total zero x f = refl
-⊗-total (suc n) x f = ⊗-⊕ x (total n (at_bit false f)) (total n (at_bit true f)) ∙ ap₂ ◌⊕◌ (⊗-total n x (at_bit false f)) (⊗-total n x (at_bit true f))
+⊗-total (suc n) x f =
+    ⊗-⊕ x (total n (at_bit false f)) (total n (at_bit true f))
+    ∙ ap₂ ◌⊕◌ (⊗-total n x (at_bit false f)) (⊗-total n x (at_bit true f))
 
 pub total-⊗ : (n : ℕ) (x : Entry) (f : Bits → Entry) → total n f ⊗ x ≡ total n (λ l. f l ⊗ x)
 total-⊗ n x f = ⊗-comm (total n f) x ∙ ⊗-total n x f ∙ total_ext n (λ l. x ⊗ f l) (λ l. f l ⊗ x) (λ l e. ⊗-comm x (f l))

@@ -11,7 +11,7 @@ use lib.IntN.{ℤ, pos, negsuc, neg_ℤ, sub_ℕ, ◌-ℤ◌}
 use lib.Pow.{pow_mono, pow-lt, pow_pos, shl_exact}
 use lib.Signed.{mag, lt_z, le_z}
 use mir.Facts.{to_z-of_z, to_z_pos}
-use mir.Syntax.{w64}
+use mir.Syntax.{w32, w64}
 use mir.Val.{SFits, to_z, of_z}
 use Rattle.algebra.specs.Width.{fit_width, number_in_width, entry_in_width, bounded}
 use Rattle.std.proofs.Common.{Some, None, is_le, is_lt, nat_cmp, int_cmp}
@@ -46,6 +46,21 @@ sub_mag a b P Q p q = by (ltb a b) refl
     by : (t : Bool) → ltb a b ≡ t → mag (cond t (negsuc (b - suc a)) (pos (a - b))) < P + Q
     by true e = omega (arith, ltb-true a b e)
     by false e = omega arith
+
+-- ---- a number held in 64 bits that is cast to 32
+
+pub record Narrows (z : ℤ) : Type 0 where
+  pub fits : SFits w32 (to_z w64 (of_z w64 z))
+  pub same : to_z w32 (of_z w32 (to_z w64 (of_z w64 z))) ≡ z
+
+narrows : (z : ℤ) → mag z < 2 ^ 31 → Narrows z
+narrows z small = record { fits = rw held small_fits; same = rw held (to_z-of_z small_fits) }
+  where
+    small_fits : SFits w32 z
+    small_fits = record { sfits = small }
+
+    held : to_z w64 (of_z w64 z) ≡ z
+    held = to_z-of_z {w = w64} (record { sfits = omega arith })
 
 -- ---- 2^(w − 1)
 
@@ -116,12 +131,15 @@ module _ (w : ℕ) (x : Entry) where
   outside_width fit outside = sym (ap₂ (λ (s t : Bool). cond (s && t) (Some x) None) fit outside)
 
   -- and then its numbers fit 32 bits
-  pub all_fit : w ≤ 32 → entry_in_width w x ≡ true → (mag x.a < 2 ^ 31) × (mag x.b < 2 ^ 31) × (mag x.c < 2 ^ 31) × (mag x.d < 2 ^ 31)
-  all_fit high inside =
+  pub all_narrow : w ≤ 32 → entry_in_width w x ≡ true → Narrows x.a × Narrows x.b × Narrows x.c × Narrows x.d
+  all_narrow high inside =
       let ab = both_left (number_in_width w x.a && number_in_width w x.b) _ inside in
       let cd = both_right (number_in_width w x.a && number_in_width w x.b) _ inside in (
-        in_width_fits w x.a high (both_left (number_in_width w x.a) _ ab),
-        in_width_fits w x.b high (both_right (number_in_width w x.a) _ ab),
-        in_width_fits w x.c high (both_left (number_in_width w x.c) _ cd),
-        in_width_fits w x.d high (both_right (number_in_width w x.c) _ cd),
+        one x.a (both_left (number_in_width w x.a) _ ab),
+        one x.b (both_right (number_in_width w x.a) _ ab),
+        one x.c (both_left (number_in_width w x.c) _ cd),
+        one x.d (both_right (number_in_width w x.c) _ cd),
       )
+    where
+      one : (z : ℤ) → number_in_width w z ≡ true → Narrows z
+      one z e = narrows z (in_width_fits w z high e)

@@ -1,6 +1,6 @@
 pub mod Entry
 pub mod Width
 pub mod Matrix
-pub mod Wide
+pub mod Numbers
 pub mod Division
 pub mod Lowering

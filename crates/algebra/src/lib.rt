@@ -3,27 +3,18 @@
 
 ghost use Rattle.std.specs.Prelude.{◌≡◌, ◌&&◌, ◌^◌, ◌-◌, ◌≤◌, ◌<◌, pos, ◌+ℤ◌, ◌-ℤ◌};
 ghost use Rattle.std.specs.Int.Signed.{mag};
-ghost use Rattle.algebra.specs.Entry.{entry, ◌⊕◌, ◌⊖◌, turned};
+ghost use Rattle.algebra.specs.Entry.{◌⊕◌, ◌⊖◌, turned};
 ghost use Rattle.algebra.specs.Width.{number_in_width, entry_in_width, bounded};
-ghost use Rattle.algebra.specs.Wide.{Small, part};
+ghost use Rattle.algebra.specs.Numbers.{entry_of, part};
 ghost use Rattle.algebra.specs.Division.{even, half, divisible, over_√2};
 
-// (a, b, c, d) means a·w8³ + b·w8² + c·w8 + d.
-#[derive(Clone, Copy, PartialEq, Eq, Debug)]
+// (a, b, c, d) means a·w8³ + b·w8² + c·w8 + d; the default one is zero.
+#[derive(Clone, Copy, PartialEq, Eq, Debug, Default)]
 pub struct Entry {
     pub a: i32,
     pub b: i32,
     pub c: i32,
     pub d: i32,
-}
-
-// An entry before its numbers are tested.
-#[derive(Clone, Copy)]
-struct Wide {
-    a: i64,
-    b: i64,
-    c: i64,
-    d: i64,
 }
 
 fn add_wide(x: i32, y: i32) -> i64
@@ -38,42 +29,35 @@ fn sub_wide(x: i32, y: i32) -> i64
     i64::from(x) - i64::from(y)
 }
 
-// Whether s is a number of the width.
-fn within(s: i64, w: u32) -> bool
+// Whether a number is one of the width.
+fn within(number: i64, w: u32) -> bool
     requires { (2 ≤ w) × (w ≤ 32) }
-    ensures { result ≡ number_in_width w s }
+    ensures { result ≡ number_in_width w number }
 {
     let half = 1i64 << (w - 1);
-    (-half..half).contains(&s)
+    (-half..half).contains(&number)
 }
 
-// The entry that a wide one is, where its numbers fit.
-fn narrow(x: Wide) -> Entry
-    requires { Small x }
-    ensures { result ≡ entry x.a x.b x.c x.d }
-{
-    Entry {
-        a: x.a as i32,
-        b: x.b as i32,
-        c: x.c as i32,
-        d: x.d as i32,
-    }
-}
-
-// Whether each number of x is one of the width.
-fn all_within(x: Wide, w: u32) -> bool
+// Whether each of four numbers is one of the width.
+fn all_within(x: [i64; 4], w: u32) -> bool
     requires { (2 ≤ w) × (w ≤ 32) }
-    ensures { result ≡ entry_in_width w (entry x.a x.b x.c x.d) }
+    ensures { result ≡ entry_in_width w (entry_of x) }
 {
-    within(x.a, w) && within(x.b, w) && within(x.c, w) && within(x.d, w)
+    x.iter().all(|z| within(*z, w))
 }
 
-// The entry, if the width is one and holds each of its numbers.
-fn narrowed(x: Wide, w: u32) -> Option<Entry>
-    ensures { result ≡ bounded w (entry x.a x.b x.c x.d) }
+// The entry of four numbers, if the width is one and holds each of them.
+fn narrowed(x: [i64; 4], w: u32) -> Option<Entry>
+    ensures { result ≡ bounded w (entry_of x) }
 {
     if (2..=32).contains(&w) && all_within(x, w) {
-        Some(narrow(x))
+        let [a, b, c, d] = x;
+        Some(Entry {
+            a: a as i32,
+            b: b as i32,
+            c: c as i32,
+            d: d as i32,
+        })
     } else {
         None
     }
@@ -84,27 +68,27 @@ pub fn sum(x: Entry, y: Entry, w: u32) -> Option<Entry>
     ensures { result ≡ bounded w (x ⊕ y) }
 {
     narrowed(
-        Wide {
-            a: add_wide(x.a, y.a),
-            b: add_wide(x.b, y.b),
-            c: add_wide(x.c, y.c),
-            d: add_wide(x.d, y.d),
-        },
+        [
+            add_wide(x.a, y.a),
+            add_wide(x.b, y.b),
+            add_wide(x.c, y.c),
+            add_wide(x.d, y.d),
+        ],
         w,
     )
 }
 
-// x − y, if it lies within the width w.
+// x − y, if it lies within the width w. It is another operation than `sum`, and not the same at another type: they share what narrows.
 pub fn difference(x: Entry, y: Entry, w: u32) -> Option<Entry>
     ensures { result ≡ bounded w (x ⊖ y) }
 {
     narrowed(
-        Wide {
-            a: sub_wide(x.a, y.a),
-            b: sub_wide(x.b, y.b),
-            c: sub_wide(x.c, y.c),
-            d: sub_wide(x.d, y.d),
-        },
+        [
+            sub_wide(x.a, y.a),
+            sub_wide(x.b, y.b),
+            sub_wide(x.c, y.c),
+            sub_wide(x.d, y.d),
+        ],
         w,
     )
 }
@@ -131,12 +115,12 @@ pub fn turned(x: Entry, j: u32, w: u32) -> Option<Entry>
 {
     let k = j % 8;
     narrowed(
-        Wide {
-            a: rotated(x, k),
-            b: rotated(x, k + 1),
-            c: rotated(x, k + 2),
-            d: rotated(x, k + 3),
-        },
+        [
+            rotated(x, k),
+            rotated(x, k + 1),
+            rotated(x, k + 2),
+            rotated(x, k + 3),
+        ],
         w,
     )
 }
@@ -155,18 +139,6 @@ fn halved(z: i64) -> i32
     (z / 2) as i32
 }
 
-fn half_sum(x: i32, y: i32) -> i32
-    ensures { result ≡ half (x +ℤ y) }
-{
-    halved(add_wide(x, y))
-}
-
-fn half_difference(x: i32, y: i32) -> i32
-    ensures { result ≡ half (x -ℤ y) }
-{
-    halved(sub_wide(x, y))
-}
-
 // Whether x is a multiple of √2.
 pub fn divisible(x: Entry) -> bool
     ensures { result ≡ divisible x }
@@ -179,9 +151,9 @@ pub fn over_root(x: Entry) -> Entry
     ensures { result ≡ over_√2 x }
 {
     Entry {
-        a: half_difference(x.b, x.d),
-        b: half_sum(x.a, x.c),
-        c: half_sum(x.b, x.d),
-        d: half_difference(x.c, x.a),
+        a: halved(sub_wide(x.b, x.d)),
+        b: halved(add_wide(x.a, x.c)),
+        c: halved(add_wide(x.b, x.d)),
+        d: halved(sub_wide(x.c, x.a)),
     }
 }

@@ -11,13 +11,14 @@ ghost use Rattle.capi.specs.Calls.{returning, judging, steps_or_refusal, answeri
 
 use stores::Store;
 
-// What is added to the number of a refusal, so that it is no count of steps.
+// What is added to the number of a refusal, so that it is no count of steps. What the calls return are numbers, as the C interface states them.
 const SCHEDULE_REFUSED: u32 = 65536;
 
 // What a call returns whose slices are too short for its answer.
 const TOO_SHORT: u32 = 1;
 
 // 0, with the report in the two slices; 1 if a slice is too short for it, and then nothing is judged or written.
+// The twenty parameters are the C interface's, which lends each column by itself.
 #[tactic(auto, unfolding(crate::specs::Calls::judging))]
 pub fn gannetrope_judge(
     u: &[u8],

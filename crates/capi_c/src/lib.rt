@@ -1,4 +1,5 @@
-// The C interface: the calls of the crate capi under the C names, with the clauses that they state there.
+// The C interface: the calls of the crate capi under the C names, with the clauses that they state there. The functions only pass on, since
+// a library may not export to C: the exports stand in this crate, of which a static library is made.
 #![tactic(auto)]
 
 ghost use Rattle.std.specs.Prelude.{◌≡◌};
@@ -9,6 +10,7 @@ ghost use Rattle.inverses.specs.Inverse.{inverted};
 ghost use Rattle.capi.specs.Calls.{returning, judging, steps_or_refusal, answering, writing};
 
 // 0, with the report in the two slices; 1 if a slice is too short for it, and then nothing is judged or written.
+// The twenty parameters are the C interface's, which lends each column by itself.
 #[unsafe(no_mangle)]
 pub extern "C" fn gannetrope_judge(
     u: &[u8],

@@ -1,16 +1,19 @@
 -- The checks before a run, in the paper's order: the width, the columns, the lists, their counts, the schedule. Definitions only.
 use Rattle.std.specs.Prelude.{Bool, cond, ◌&&◌, List, ℕ, eqb, leb, length, Result, Ok, Err}
+use Rattle.std.specs.Borrow.{Bor}
 use Rattle.algebra.specs.Width.{fit_width}
 use Rattle.circuits.specs.Refusals.{base_limits}
 use Rattle.circuits.specs.Reading.{Reading, read, refused as unread, Circuit, decoded}
+use Rattle.circuits.specs.Answers.{reader_at}
 use Rattle.schedules.specs.Schedule.{fits}
 use Rattle.stores.specs.Columns.{Columns}
 use Rattle.miters.specs.declared.CallFault.TheVariants.{Width, Columns as WrongColumns, QubitCounts, Schedule}
+use Rattle.miters.specs.declared.Part.TheVariants.{First, Second}
 use Rattle.miters.specs.declared.Refusal.{Refusal}
 use Rattle.miters.specs.declared.Refusal.TheVariants.{Call}
 use Rattle.miters.specs.Report.{at_byte}
+use Rattle.choices.specs.declared.Course.{Course}
 use Rattle.checks.specs.declared.Lengths.{Lengths}
-use Rattle.checks.specs.declared.Pair.{Pair}
 
 -- ---- 2: "column lengths break the store rules"
 
@@ -45,16 +48,17 @@ pub data Checks : Type 0 where
 -- 11: "qubit counts differ"; 12: "schedule doesn't fit"
 abbrev pub check_pair : List ℕ → Circuit → Circuit → Checks
 check_pair schedule c d =
-    cond (eqb c.qubits d.qubits) (cond (fits (length c.gates) (length d.gates) schedule) (passes c d) (refuses (Call Schedule))) (refuses (Call QubitCounts))
+    cond (eqb c.qubits d.qubits)
+    (cond (fits (length c.gates) (length d.gates) schedule) (passes c d) (refuses (Call Schedule))) (refuses (Call QubitCounts))
 
 -- "List 1 is read to its end before list 2."
 abbrev pub check_second : List ℕ → Circuit → Reading Circuit → Checks
 check_second schedule c (read d next) = check_pair schedule c d
-check_second schedule c (unread why) = refuses (at_byte 2 why)
+check_second schedule c (unread why) = refuses (at_byte Second why)
 
 abbrev pub check_first : List ℕ → List ℕ → Reading Circuit → Checks
 check_first v schedule (read c next) = check_second schedule c (decoded base_limits v)
-check_first v schedule (unread why) = refuses (at_byte 1 why)
+check_first v schedule (unread why) = refuses (at_byte First why)
 
 unfoldable pub check_lists : List ℕ → List ℕ → List ℕ → Checks
 check_lists u v schedule = check_first v schedule (decoded base_limits u)
@@ -66,7 +70,12 @@ checks u v schedule w first second =
 
 -- ---- what the code answers
 
--- the refusal, or the qubit count and the offsets of the first gates
-abbrev pub checked : Checks → Result Pair Refusal
-checked (refuses why) = Err why
-checked (passes c d) = Ok (record { n = c.qubits; offsets = record { first = c.first; second = d.first } })
+-- two lists that were read, from their first gates on, with the schedule and the qubit count
+abbrev pub course_of : Bor (List ℕ) → Bor (List ℕ) → Bor (List ℕ) → Circuit → Circuit → Course
+course_of u v schedule c d =
+    record { lists = record { first = reader_at u c.first; second = reader_at v d.first }; schedule = schedule; n = c.qubits }
+
+-- the refusal, or what a run follows
+abbrev pub checked : Bor (List ℕ) → Bor (List ℕ) → Bor (List ℕ) → Checks → Result Course Refusal
+checked u v schedule (refuses why) = Err why
+checked u v schedule (passes c d) = Ok (course_of u v schedule c d)

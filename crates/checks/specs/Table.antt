@@ -7,6 +7,7 @@ use Rattle.circuits.specs.Refusals.{base_limits}
 use Rattle.circuits.specs.Reading.{read, refused as unread, Circuit, decoded}
 use Rattle.schedules.specs.Schedule.{fits}
 use Rattle.miters.specs.declared.CallFault.TheVariants.{Width, Columns as WrongColumns, QubitCounts, Schedule}
+use Rattle.miters.specs.declared.Part.TheVariants.{First, Second}
 use Rattle.miters.specs.declared.Refusal.TheVariants.{Call}
 use Rattle.miters.specs.Report.{at_byte}
 use Rattle.checks.specs.declared.Lengths.{Lengths}
@@ -33,9 +34,9 @@ module _ (u v schedule : List ℕ) (w : ℕ) (first second : Lengths) where
     -- 2, "column lengths break the store rules"
     bad_stores : fit_width w ≡ true → both_rules first second ≡ false → Checking (refuses (Call WrongColumns))
     -- 3 to 10 and 17 of list 1, then of list 2
-    bad_first : {why : ListRefusal} → LentWell → decoded base_limits u ≡ unread why → Checking (refuses (at_byte 1 why))
+    bad_first : {why : ListRefusal} → LentWell → decoded base_limits u ≡ unread why → Checking (refuses (at_byte First why))
     bad_second : {c : Circuit} {next : ℕ} {why : ListRefusal} → LentWell → decoded base_limits u ≡ read c next
-        → decoded base_limits v ≡ unread why → Checking (refuses (at_byte 2 why))
+        → decoded base_limits v ≡ unread why → Checking (refuses (at_byte Second why))
     -- 11, "qubit counts differ"
     counts_differ : {c d : Circuit} → BothRead c d → (c.qubits ≡ d.qubits → ⊥) → Checking (refuses (Call QubitCounts))
     -- 12, "schedule doesn't fit"

@@ -5,15 +5,16 @@ use mathlib.Core.Bool.{Bool, true, false}
 use mathlib.Core.List.{List}
 use Prim.Native.Nat.{ℕ, ◌^◌, ◌<◌, ◌≤◌, min, max}
 use native.Mathlib.Omega.{arith}
-use Rattle.std.specs.Prelude.{Ok}
+use Rattle.std.specs.Prelude.{Result, Ok}
 use Rattle.gates.specs.declared.Rule.{Rule}
 use Rattle.gates.specs.Gate.{X, Y, Z, H, S, S†, T, T†, CNOT, CZ, Gate, on, pair, toffoli, fredkin, Fits, halves}
-use Rattle.gates.specs.Rule.{gate_rule, target, second}
+use Rattle.gates.specs.Rule.{does_mix, gate_rule, target, second}
 use Rattle.gates.proofs.LocalRules.{second_fits}
 use Rattle.gates.proofs.Masks.{names_below}
 use Rattle.gates.proofs.Inverses.{inverse_fits}
 use Rattle.circuits.specs.declared.Gate.{Gate as GateData}
 use Rattle.circuits.specs.declared.Reader.{Reader}
+use Rattle.circuits.specs.declared.Refusal.{Refusal}
 use Rattle.circuits.specs.Reading.{Reading, read, refused, gate}
 use Rattle.circuits.specs.Answers.{control, first_target, last_target, gate_data, Says}
 use Rattle.circuits.proofs.Remaining.{remaining_next}
@@ -26,7 +27,7 @@ use Rattle.choices.specs.declared.Lists.{Lists as Readers}
 use Rattle.choices.specs.Choosing.{sided, Sided, Acting, Read, Takes, from_U, from_V, Left, Chosen}
 
 -- what a gate adds to the exponent: 1 if it mixes
-pub gate_halves : (g : Gate) → as_number (gate_rule g).mixes ≡ halves g
+pub gate_halves : (g : Gate) → as_number (does_mix (gate_rule g).act) ≡ halves g
 gate_halves (on X q) = refl
 gate_halves (on Y q) = refl
 gate_halves (on Z q) = refl
@@ -100,18 +101,19 @@ acting_acts n right g side rule action few fits is_side rule_is acting =
 
 module _ (old new : Reader) (n : ℕ) (side : Side) where
   -- the reader goes on behind the gate, on the same bytes
-  gate_moves : (r : Reading Gate) (what : GateData) → Says gate_data r old new (Ok what) → new.bytes ≡ old.bytes
-  gate_moves (read g next) what says = ap (λ (x : Reader). x.bytes) says.1
-  gate_moves (refused why) what says = cc
+  gate_moves : (r : Result GateData Refusal) (x : Reading Gate) → Says gate_data x old new r → new.bytes ≡ old.bytes
+  gate_moves r (read g next) says = ap (λ (x : Reader). x.bytes) says.1
+  gate_moves r (refused why) says = says.1
 
-  pub gate_taken : {what : GateData} {rule : Rule} {action : Action} → Says gate_data (gate n old.bytes.now old.at) old new (Ok what)
+  -- what is taken is what was read, if anything was
+  pub gate_taken : {r : Result GateData Refusal} {what : GateData} {rule : Rule} {action : Action}
+      → Says gate_data (gate n old.bytes.now old.at) old new r → ((x : GateData) → r ≡ Ok x → what ≡ x)
       → Sided side what.code rule → Acting rule side what action → Read old n side new action
-  gate_taken {what} {rule} {action} says rules acting = record {
-    same_bytes = gate_moves (gate n old.bytes.now old.at) what says;
+  gate_taken {r} {what} {rule} {action} says is_read rules acting = record {
+    same_bytes = gate_moves r (gate n old.bytes.now old.at) says;
     taken = λ right g next is_side few fits reads.
-        let found : Says gate_data (read g next) old new (Ok what) = rw reads at says in
-        let both : Ok what ≡ Ok (gate_data g) = found.0 in
-        let is : what ≡ gate_data g = cc in (
+        let found : Says gate_data (read g next) old new r = rw reads at says in
+        let is : what ≡ gate_data g = is_read _ found.0 in (
           acting_acts n right g side rule action few fits is_side (rules right g is_side (ap (λ (w : GateData). w.code) is))
               (subst (λ (w : GateData). Acting rule side w action) is acting),
           ap (λ (x : Reader). x.at) found.1,
@@ -128,7 +130,8 @@ module _ (old : Readers) (n step : ℕ) (new : Reader) (action : Action) where
     next = λ us vs us' vs' right g takes few left. taken takes zero_step few left;
   }
     where
-      taken : {step : ℕ} {us vs us' vs' : List Gate} {right : Bool} {g : Gate} → Takes step us vs right g us' vs' → step ≡ 0 → n ≤ 16 → Left n old us vs
+      taken : {step : ℕ} {us vs us' vs' : List Gate} {right : Bool} {g : Gate}
+          → Takes step us vs right g us' vs' → step ≡ 0 → n ≤ 16 → Left n old us vs
           → Acts n right g action × Left n (record { first = new; second = old.second }) us' vs'
       taken (from_U {g = g} {us = us}) e few left =
           let next = remaining_next n old.first.bytes.now old.first.at g us left.gates_u in
@@ -150,7 +153,8 @@ module _ (old : Readers) (n step : ℕ) (new : Reader) (action : Action) where
     next = λ us vs us' vs' right g takes few left. taken takes some_step few left;
   }
     where
-      taken : {step : ℕ} {us vs us' vs' : List Gate} {right : Bool} {g : Gate} → Takes step us vs right g us' vs' → (step ≡ 0 → ⊥) → n ≤ 16 → Left n old us vs
+      taken : {step : ℕ} {us vs us' vs' : List Gate} {right : Bool} {g : Gate}
+          → Takes step us vs right g us' vs' → (step ≡ 0 → ⊥) → n ≤ 16 → Left n old us vs
           → Acts n right g action × Left n (record { first = old.first; second = new }) us' vs'
       taken from_U e few left = absurd (e refl)
       taken (from_V {g = g} {vs = vs}) e few left =

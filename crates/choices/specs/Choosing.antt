@@ -15,7 +15,6 @@ use Rattle.plans.specs.declared.Side.{Side}
 use Rattle.plans.specs.declared.Action.{Action}
 use Rattle.plans.specs.Prepare.{side_of, named_mask}
 use Rattle.plans.specs.Layout.{Acts}
-use Rattle.choices.specs.declared.Offsets.{Offsets}
 use Rattle.choices.specs.declared.Lists.{Lists as Readers}
 
 -- a gate's inverse, as it is put on the right, or the gate, as it is put on the left
@@ -55,6 +54,15 @@ pub data Takes : ℕ → List Gate → List Gate → Bool → Gate → List Gate
   from_U : {g : Gate} {us vs : List Gate} → Takes zero (g ∷ us) vs false g us vs
   from_V : {b : ℕ} {g : Gate} {us vs : List Gate} → Takes (suc b) us (g ∷ vs) true (inverse g) us vs
 
+-- the offsets at which the gates of the two lists are read
+pub record Offsets : Type 0 where
+  pub first : ℕ
+  pub second : ℕ
+
+-- those of two readers
+abbrev pub offsets_of : Readers → Offsets
+offsets_of lists = record { first = lists.first.at; second = lists.second.at }
+
 -- the gates that are left of the two lists, from these offsets on
 pub record Lists (n : ℕ) (u v : List ℕ) (offsets : Offsets) (us vs : List Gate) : Type 0 where
   pub gates_u : Remaining n u offsets.first us
@@ -64,7 +72,7 @@ pub record Lists (n : ℕ) (u v : List ℕ) (offsets : Offsets) (us vs : List Ga
 
 -- the gates that are left of the two lists, where they are read next
 abbrev pub Left : ℕ → Readers → List Gate → List Gate → Type 0
-Left n lists us vs = Lists n lists.first.bytes.now lists.second.bytes.now (record { first = lists.first.at; second = lists.second.at }) us vs
+Left n lists us vs = Lists n lists.first.bytes.now lists.second.bytes.now (offsets_of lists) us vs
 
 -- the two lists stay the same bytes, and the gate is the next of one of them
 pub record Chosen (old new : Readers) (step n : ℕ) (r : Action) : Type 0 where

@@ -2,11 +2,12 @@
 #![tactic(auto)]
 
 ghost use Rattle.std.specs.Prelude.{◌≡◌};
+ghost use Rattle.gates.specs.Rule.{does_mix};
 ghost use Rattle.plans.specs.Prepare.{as_number};
 ghost use Rattle.choices.specs.Choosing.{Sided, Power, Named, Acting, Read, Chosen};
 
 use circuits::{Gate, Reader};
-use gates::{Code, Operands, Rule};
+use gates::{Act, Code, Operands, Rule};
 use plans::{Action, Side};
 
 // The most qubits, and how many masks of them there are.
@@ -14,18 +15,29 @@ const QUBITS: u32 = 16;
 
 const MASKS: u32 = 65536;
 
-// The offsets at which the gates of the two lists are read.
-#[derive(Clone, Copy)]
-pub struct Offsets {
-    pub first: usize,
-    pub second: usize,
-}
-
 // The two lists, each where its gates are read next.
 #[derive(Clone, Copy)]
 pub struct Lists<'a> {
     pub first: Reader<'a>,
     pub second: Reader<'a>,
+}
+
+// The gate of a step where none can be read: `choose` takes any lists, asks nothing of its callers and cannot fail, so it needs some answer
+// there. It is X on qubit 0.
+const STAND_IN: Gate = Gate {
+    code: Code::X,
+    control: 0,
+    target: 0,
+    second: 0,
+};
+
+// What a run follows: two lists that passed the checks, each where its gates begin, the schedule along which they are taken, and how many
+// qubits they are on.
+#[derive(Clone, Copy)]
+pub struct Course<'a> {
+    pub lists: Lists<'a>,
+    pub schedule: &'a [u8],
+    pub n: u32,
 }
 
 // The data of a gate's inverse, put on the right, or of the gate, put on the left.
@@ -50,15 +62,11 @@ fn named(operands: Operands, gate: Gate) -> u32
     ensures { Named operands gate result }
 {
     let own = power(gate.target);
-    let mask = gate.control % MASKS;
     match operands {
         Operands::Qubit => own,
         Operands::Controlled => power(gate.control) + own,
-        Operands::Masked {
-            least: _,
-            targets: 2,
-        } => mask + own + power(gate.second),
-        Operands::Masked { .. } => mask + own,
+        Operands::Masked { .. } => gate.control % MASKS + own,
+        Operands::Exchanging { .. } => gate.control % MASKS + own + power(gate.second),
     }
 }
 
@@ -75,28 +83,12 @@ fn act(rule: Rule, side: Side, gate: Gate) -> Action
     }
 }
 
-// The gate that is read next in a list on n qubits, inverted, for the right, or as it is, for the left. Where no gate can be read, which
-// no caller asks for, it is X on qubit 0, and the reader stays.
+// The gate that is read next in a list on n qubits, inverted, for the right, or as it is, for the left; the stand-in where none can be read.
 fn take(reader: &mut Reader<'_>, n: u32, side: Side) -> Action
     ensures { Read reader.old n side reader.new result }
 {
-    let mut ahead = *reader;
-    match ahead.gate(n) {
-        Ok(gate) => {
-            *reader = ahead;
-            act(rule_on(side, gate.code), side, gate)
-        }
-        Err(_) => act(
-            Code::X.rule(),
-            side,
-            Gate {
-                code: Code::X,
-                control: 0,
-                target: 0,
-                second: 0,
-            },
-        ),
-    }
+    let gate = reader.gate(n).unwrap_or(STAND_IN);
+    act(rule_on(side, gate.code), side, gate)
 }
 
 // The gate of a step: the next of U for the left, or the next of V, inverted, for the right. The step stays a number: it is a byte of the
@@ -113,7 +105,7 @@ pub fn choose(lists: &mut Lists<'_>, step: u8, n: u32) -> Action
 
 // What a step adds to the exponent.
 pub fn halves(action: Action) -> u32
-    ensures { result ≡ as_number action.rule.mixes }
+    ensures { result ≡ as_number (does_mix action.rule.act) }
 {
-    u32::from(action.rule.mixes)
+    u32::from(action.rule.act == Act::Mixes)
 }

@@ -1,9 +1,10 @@
 -- What a reader's answer says of the reading behind it.
 -- Assumes nothing.
-use mathlib.Core.Path.{◌≡◌, sym, ◌∙◌, ap, subst}
+use mathlib.Core.Path.{◌≡◌, refl, sym, ◌∙◌, ap, subst}
 use Prim.Native.Nat.{ℕ}
 use native.Mathlib.Omega.{arith}
 use Rattle.std.specs.Prelude.{Result, Ok, Err}
+use Rattle.std.specs.Result.{MatchResult, IsErrAnd}
 use Rattle.gates.specs.Gate.{Gate}
 use Rattle.circuits.specs.declared.Refusal.{Refusal}
 use Rattle.circuits.specs.declared.Gate.{Gate as GateRead}
@@ -55,6 +56,14 @@ abbrev pub with_data : Reading Gate → Reading GateRead
 with_data (read g next) = read (gate_data g) next
 with_data (refused r) = refused r
 
-pub data_said : (m : Reading Gate) (old new : ReaderAt) (r : Result GateRead Refusal) → Says (λ g. g) (with_data m) old new r → Says gate_data m old new r
+pub data_said : (m : Reading Gate) (old new : ReaderAt) (r : Result GateRead Refusal)
+    → Says (λ g. g) (with_data m) old new r → Says gate_data m old new r
 data_said (read g next) old new r h = h
 data_said (refused why) old new r h = h
+
+-- ---- a refusal that was taken for another
+
+pub map_refused : {T E D : Type 0} (answer : Result T E) (mapped : Result T D) (Post : E → D → Type 0) (is : D)
+    → MatchResult answer (λ x. mapped ≡ Ok x) (λ e. IsErrAnd mapped (Post e)) → mapped ≡ Err is → (why : E) × (answer ≡ Err why) × Post why is
+map_refused (Ok x) mapped Post is cases e = let both : Ok x ≡ Err is = sym cases ∙ e in cc
+map_refused (Err why) mapped Post is cases e = (why, refl, subst (λ r. IsErrAnd r (Post why)) e cases)

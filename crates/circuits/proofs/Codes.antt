@@ -177,7 +177,8 @@ module _ (n : ℕ) (s : List ℕ) where
   fredkin_data (read m next) = second_data m (free_qubit n m s next)
   fredkin_data (refused r) = refl
 
-  pub code_data : (start at : ℕ) (c : Code) → operands_data n c (code_rule c).operands s at ≡ with_data (operands n start (meant (code_number c)) s at)
+  pub code_data : (start at : ℕ) (c : Code)
+      → operands_data n c (code_rule c).operands s at ≡ with_data (operands n start (meant (code_number c)) s at)
   unfolding meant
   code_data start at Code.X = last_data (on X) (qubit n s at)
   code_data start at Code.Y = last_data (on Y) (qubit n s at)

@@ -75,7 +75,11 @@ pub record Step (n m : ℕ) (s : List ℕ) (at : ℕ) (g : Gate) (gs : List Gate
 step_of : {n m : ℕ} {s : List ℕ} {at : ℕ} {g h : Gate} {gs hs : List Gate} {next mid end : ℕ} → gate n s at ≡ read h next
     → gates n m s next ≡ read hs mid → read (h ∷ hs) mid ≡ read (g ∷ gs) end → Step n m s at g gs end
 step_of {next = next} first second e =
-    record { next = next; gate_here = first ∙ ap₂ read (cons_head (read_value e)) refl; others = second ∙ ap₂ read (cons_tail (read_value e)) (read_next e) }
+    record {
+      next = next;
+      gate_here = first ∙ ap₂ read (cons_head (read_value e)) refl;
+      others = second ∙ ap₂ read (cons_tail (read_value e)) (read_next e);
+    }
 
 pub gates_step : (n m : ℕ) (s : List ℕ) (at : ℕ) {g : Gate} {gs : List Gate} {end : ℕ}
     → gates n (suc m) s at ≡ read (g ∷ gs) end → Step n m s at g gs end

@@ -60,7 +60,8 @@ operands_stays n start (two k) s at g next e h =
 operands_stays n start mask_one s at g next e h =
     stays_then (mask_stays n 2) (λ m. stays_then (free_stays n m) (λ q. pure_stays (toffoli m q))) s at g next e h
 operands_stays n start mask_two s at g next e h =
-    stays_then (mask_stays n 1) (λ m. stays_then (free_stays n m) (λ p. stays_then (other_stays n m p) (λ q. pure_stays (fredkin m p q)))) s at g next e h
+    stays_then (mask_stays n 1)
+    (λ m. stays_then (free_stays n m) (λ p. stays_then (other_stays n m p) (λ q. pure_stays (fredkin m p q)))) s at g next e h
 operands_stays n start unknown s at g next e h = absurd (refused_read e)
 
 gate_stays : (n : ℕ) → Stays (gate n)

@@ -1,11 +1,11 @@
 -- What the code answers for each thing read: the values and the refusal for each case, and where the reader stands. Definitions only.
-use Rattle.std.specs.Prelude.{◌≡◌, ℕ, Bool, cond, List, eqb, Result, Ok, Err}
+use Rattle.std.specs.Prelude.{◌≡◌, ℕ, Bool, cond, List, Result, Ok, Err}
 use Rattle.std.specs.Borrow.{Bor}
 use Rattle.gates.specs.Gate.{Gate, on, pair, toffoli, fredkin}
 use Rattle.gates.specs.Code.{coded}
 use Rattle.gates.specs.declared.Code.{Code}
 use Rattle.gates.specs.declared.Operands.{Operands}
-use Rattle.gates.specs.declared.Operands.TheVariants.{Qubit, Controlled, Masked}
+use Rattle.gates.specs.declared.Operands.TheVariants.{Qubit, Controlled, Masked, Exchanging}
 use Rattle.circuits.specs.declared.Fault.{Fault}
 use Rattle.circuits.specs.declared.Refusal.{Refusal}
 use Rattle.circuits.specs.declared.Gate.{Gate as GateRead}
@@ -87,4 +87,5 @@ operands_data n code Qubit = do
   q ← qubit n
   pure (data_of code 0 q q)
 operands_data n code Controlled = controlled n code
-operands_data n code (Masked least targets) = cond (eqb targets 2) (exchanging n code least) (masked n code least)
+operands_data n code (Masked least) = masked n code least
+operands_data n code (Exchanging least) = exchanging n code least

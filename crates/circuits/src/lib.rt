@@ -3,11 +3,11 @@
 
 ghost use Rattle.std.specs.Prelude.{◌≡◌, ◌^◌, ltb};
 ghost use Rattle.gates.specs.Gate.{in_mask};
-ghost use Rattle.circuits.specs.Refusals.{fault_number, base_limits};
+ghost use Rattle.circuits.specs.Refusals.{base_limits};
 ghost use Rattle.circuits.specs.Reading.{byte, number, qubit, target_qubit, mask_below, mask, free_qubit, second_qubit, gate};
-ghost use Rattle.circuits.specs.Answers.{reader_at, kept, Says, gate_data, controlled, masked, exchanging, operands_data};
+ghost use Rattle.circuits.specs.Answers.{reader_at, kept, Says, gate_data, data_of, controlled, masked, exchanging, operands_data};
 
-use gates::{Code, Operands, UnknownCode};
+use gates::{Code, Operands};
 
 // ---- answers
 
@@ -25,15 +25,6 @@ pub enum Fault {
     TooFewControls = 17,
 }
 
-impl Fault {
-    // Its number in the paper's table.
-    pub fn number(self) -> u32
-        ensures { result ≡ fault_number self }
-    {
-        self as u32
-    }
-}
-
 // A fault and the offset that it returns.
 #[derive(Clone, Copy, PartialEq, Eq, Debug)]
 pub struct Refusal {
@@ -42,13 +33,26 @@ pub struct Refusal {
 }
 
 // A gate of a list. The control is a mask for Toffoli and Fredkin, and 0 where the gate names one qubit; the second target is the target again
-// where there is one only.
+// where there is one only. One shape for every kind: a step's plan takes the targets the same way for each kind (choices::act), and who
+// has to know what the control is, or whether the second target is another, asks the code's rule (choices::named, inverses::write_operands).
 #[derive(Clone, Copy, PartialEq, Eq, Debug)]
 pub struct Gate {
     pub code: Code,
     pub control: u32,
     pub target: u32,
     pub second: u32,
+}
+
+// A gate of one target.
+fn with_one_target(code: Code, control: u32, target: u32) -> Gate
+    ensures { result ≡ data_of code control target target }
+{
+    Gate {
+        code,
+        control,
+        target,
+        second: target,
+    }
 }
 
 // ---- limits
@@ -73,17 +77,13 @@ pub fn base_limits() -> Limits
 // ---- tests
 
 // A number that starts at `start`, if it passes its test; else the test's refusal.
-fn kept(passes: bool, fault: Fault, start: usize, value: u32) -> Result<u32, Refusal>
+pub fn kept(passes: bool, fault: Fault, start: usize, value: u32) -> Result<u32, Refusal>
     ensures { result ≡ kept passes fault start value }
 {
-    if passes {
-        Ok(value)
-    } else {
-        Err(Refusal {
-            fault,
-            offset: start,
-        })
-    }
+    passes.then_some(value).ok_or(Refusal {
+        fault,
+        offset: start,
+    })
 }
 
 // Whether bit q of the mask is set.
@@ -101,6 +101,9 @@ fn below_count(mask: u32, n: u32) -> bool
 }
 
 // ---- reading
+
+// How many numbers a group of seven bits tells apart; a byte from there on says that another group follows.
+pub const GROUP: u32 = 128;
 
 // A list's bytes, borrowed, and the offset that is read next. Where it stands after a refusal is left open.
 #[derive(Clone, Copy)]
@@ -121,16 +124,12 @@ impl<'a> Reader<'a> {
     fn byte(&mut self, start: usize) -> Result<u8, Refusal>
         ensures { Says (λ v. v) (byte start self.old.bytes.now self.old.at) self.old self.new result }
     {
-        if self.at < self.bytes.len() {
-            let byte = self.bytes[self.at];
-            self.at += 1;
-            Ok(byte)
-        } else {
-            Err(Refusal {
-                fault: Fault::EndsEarly,
-                offset: start,
-            })
-        }
+        let byte = *self.bytes.get(self.at).ok_or(Refusal {
+            fault: Fault::EndsEarly,
+            offset: start,
+        })?;
+        self.at += 1;
+        Ok(byte)
     }
 
     // The number that stands next: one to three groups of seven bits, lowest first, in the shortest form.
@@ -139,17 +138,21 @@ impl<'a> Reader<'a> {
     {
         let start = self.at;
         let x = u32::from(self.byte(start)?);
-        if x < 128 {
+        if x < GROUP {
             return Ok(x);
         }
         let y = u32::from(self.byte(start)?);
-        if y < 128 {
-            return kept(y != 0, Fault::NotShortest, start, x % 128 + y * 128);
+        if y < GROUP {
+            return kept(y != 0, Fault::NotShortest, start, x % GROUP + y * GROUP);
         }
         let z = u32::from(self.byte(start)?);
-        let value = x % 128 + y % 128 * 128 + z * 16384;
-        kept(z != 0 && z < 128, Fault::NotShortest, start, value)
+        let value = x % GROUP + y % GROUP * GROUP + z * GROUP * GROUP;
+        kept(z != 0 && z < GROUP, Fault::NotShortest, start, value)
     }
+
+    // The readers of one number below (and lists::read_count) are alike: read, test, keep. A function over two closures, one to read and one to
+    // test, would be no plainer: each would still say both, in one long line in place of three short ones. The qubit count is handed to each
+    // and is no field, since a reader reads the head of a list too, before the count is known.
 
     // A qubit, below the list's qubit count.
     #[tactic(auto, unfolding(crate::specs::Reading::qubit))]
@@ -222,12 +225,7 @@ impl<'a> Reader<'a> {
     {
         let control = self.qubit(qubits)?;
         let target = self.target(qubits, control)?;
-        Ok(Gate {
-            code,
-            control,
-            target,
-            second: target,
-        })
+        Ok(with_one_target(code, control, target))
     }
 
     // A gate of a mask of controls and one target, after its code.
@@ -236,16 +234,11 @@ impl<'a> Reader<'a> {
     {
         let control = self.mask(qubits, least)?;
         let target = self.free(qubits, control)?;
-        Ok(Gate {
-            code,
-            control,
-            target,
-            second: target,
-        })
+        Ok(with_one_target(code, control, target))
     }
 
     // A gate of a mask of controls and two targets, after its code.
-    fn targets(&mut self, qubits: u32, code: Code, least: u32) -> Result<Gate, Refusal>
+    fn exchanging(&mut self, qubits: u32, code: Code, least: u32) -> Result<Gate, Refusal>
         ensures { Says (λ g. g) (exchanging qubits code least self.old.bytes.now self.old.at) self.old self.new result }
     {
         let control = self.mask(qubits, least)?;
@@ -266,16 +259,11 @@ impl<'a> Reader<'a> {
         match operands {
             Operands::Qubit => {
                 let target = self.qubit(qubits)?;
-                Ok(Gate {
-                    code,
-                    control: 0,
-                    target,
-                    second: target,
-                })
+                Ok(with_one_target(code, 0, target))
             }
             Operands::Controlled => self.controlled(qubits, code),
-            Operands::Masked { least, targets: 2 } => self.targets(qubits, code, least),
-            Operands::Masked { least, targets: _ } => self.masked(qubits, code, least),
+            Operands::Masked { least } => self.masked(qubits, code, least),
+            Operands::Exchanging { least } => self.exchanging(qubits, code, least),
         }
     }
 
@@ -286,12 +274,10 @@ impl<'a> Reader<'a> {
     {
         let start = self.at;
         let number = self.number()?;
-        match Code::try_from(number) {
-            Ok(code) => self.operands(qubits, code, code.rule().operands),
-            Err(UnknownCode) => Err(Refusal {
-                fault: Fault::UnknownCode,
-                offset: start,
-            }),
-        }
+        let code = Code::try_from(number).map_err(|_| Refusal {
+            fault: Fault::UnknownCode,
+            offset: start,
+        })?;
+        self.operands(qubits, code, code.rule().operands)
     }
 }

@@ -140,16 +140,11 @@ module _ {X : Type 0} {same : X → X → Bool} (𝓓 : Decides same) where
       (reduce_again left (suc level) (λ l. f (true ∷ l)) low.store t from_high)
       ∙ make_node_again n high.store t g
 
-  -- ---- what is known stays known
+  -- ---- what is made is known
 
   pub known_made : (left level : ℕ) (f : Bits → X) (s : Store X)
       → let D = reduce same left level f s in Known same left level f D.store D.root
   known_made left level f s = let D = reduce same left level f s in reduce_again left level f s D.store (extends_refl D.store)
-
-  pub known_extends : (left level : ℕ) (f : Bits → X) (s t : Store X) (r : Ref) → Known same left level f s r → Extends s t → Known same left level f t r
-  known_extends left level f s t r known g =
-      reduce_again left level f s t (subst (λ (p : Diagram X). Extends p.store t) (sym known) g)
-      ∙ ap (λ (p : Diagram X). rooted t p.root) known
 
   -- ---- skipped levels
 
@@ -158,7 +153,8 @@ module _ {X : Type 0} {same : X → X → Bool} (𝓓 : Decides same) where
       → reduce same left (suc level) (λ l. f (false ∷ l)) s ≡ rooted t r
       → Known same left (suc level) (λ l. f (true ∷ l)) t r
       → reduce same (suc left) level f s ≡ rooted t r
-  reduce_alike left level f s t r e₁ e₂ = reduce_step same left level f s t t r r e₁ e₂ ∙ make_node_alike (branch level r r) t (ref_decides.reflexive r)
+  reduce_alike left level f s t r e₁ e₂ =
+      reduce_step same left level f s t t r r e₁ e₂ ∙ make_node_alike (branch level r r) t (ref_decides.reflexive r)
 
   -- f does not depend on the first bit
   pub reduce_skip : (left level : ℕ) (f : Bits → X) (s : Store X) → ((l : Bits) → length l ≡ left → f (false ∷ l) ≡ f (true ∷ l))

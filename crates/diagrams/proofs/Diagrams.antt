@@ -28,4 +28,5 @@ diagram_gives n M r c e f =
 -- only the entries on n qubits count
 pub diagram_ext : (n : ℕ) (M N : Matrix) → ((r c : Bits) → length r ≡ n → length c ≡ n → M r c ≡ N r c) → diagram n M ≡ diagram n N
 diagram_ext n M N alike =
-    reduce_ext same_entry (levels n) 0 (entries M) (entries N) empty (λ l e. alike (rows l) (columns l) (length_halves n l e).0 (length_halves n l e).1)
+    reduce_ext same_entry (levels n) 0 (entries M) (entries N) empty
+    (λ l e. alike (rows l) (columns l) (length_halves n l e).0 (length_halves n l e).1)

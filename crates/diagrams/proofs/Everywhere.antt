@@ -29,7 +29,8 @@ everywhere_all (suc k) test e (b ∷ l) h = everywhere_all k (λ m. test (b ∷ 
 all_everywhere : (k : ℕ) (test : Bits → Bool) → ((l : Bits) → length l ≡ k → test l ≡ true) → everywhere k test ≡ true
 all_everywhere zero test all = all [] refl
 all_everywhere (suc k) test all = true_both
-    (all_everywhere k (λ m. test (false ∷ m)) (λ l h. all (false ∷ l) (ap suc h))) (all_everywhere k (λ m. test (true ∷ m)) (λ l h. all (true ∷ l) (ap suc h)))
+    (all_everywhere k (λ m. test (false ∷ m)) (λ l h. all (false ∷ l) (ap suc h)))
+    (all_everywhere k (λ m. test (true ∷ m)) (λ l h. all (true ∷ l) (ap suc h)))
 
 pub everywhere_ext : (k : ℕ) (p q : Bits → Bool) → ((l : Bits) → length l ≡ k → p l ≡ q l) → everywhere k p ≡ everywhere k q
 everywhere_ext zero p q h = h [] refl

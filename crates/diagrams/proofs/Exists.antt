@@ -219,7 +219,8 @@ module _ {X : Type 0} {same : X → X → Bool} (𝓓 : Decides same) (blank : X
   at_cons P left h [] e = absurd (omega arith)
   at_cons P left h (b ∷ l) e = h b l (omega arith)
 
-  made_value : (level : ℕ) (f : Bits → X) (s : Store X) → Valid blank levels s → Kept same blank (f []) s.values → Made 0 level f s (put_value same (f []) s)
+  made_value : (level : ℕ) (f : Bits → X) (s : Store X) → Valid blank levels s → Kept same blank (f []) s.values
+      → Made 0 level f s (put_value same (f []) s)
   made_value level f s valid (found j h g (p, q)) = subst (Made 0 level f s) (λ i. rooted (holding s.nodes (sym p i)) (value (sym q i))) (record {
     extends = extends_refl s;
     valid = valid;
@@ -406,7 +407,8 @@ module _ {X : Type 0} {same : X → X → Bool} (𝓓 : Decides same) (blank : X
         by_test false e = subst (Made (suc left) level f s) (sym (make_node_apart n s₂ e))
             (by_kept (false_apart ref_decides low high e) (kept node_decides unused n s₂.nodes))
 
-  made : (left level : ℕ) (f : Bits → X) (s : Store X) → left + level ≡ levels → Valid blank levels s → Made left level f s (reduce same left level f s)
+  made : (left level : ℕ) (f : Bits → X) (s : Store X) → left + level ≡ levels → Valid blank levels s
+      → Made left level f s (reduce same left level f s)
   unfolding reduce
   made zero level f s sum valid = made_value level f s valid (kept 𝓓 blank (f []) s.values)
   made (suc left) level f s sum valid =

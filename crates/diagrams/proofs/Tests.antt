@@ -33,7 +33,8 @@ pub true_both : {p q : Bool} → p ≡ true → q ≡ true → (p && q) ≡ true
 true_both e f = ap₂ (λ (p q : Bool). p && q) e f
 
 -- a test through a function that tells all apart
-pub decides_by : {A B : Type 0} {same : B → B → Bool} (f : A → B) → ((x y : A) → f x ≡ f y → x ≡ y) → Decides same → Decides (λ (x y : A). same (f x) (f y))
+pub decides_by : {A B : Type 0} {same : B → B → Bool} (f : A → B) → ((x y : A) → f x ≡ f y → x ≡ y) → Decides same
+    → Decides (λ (x y : A). same (f x) (f y))
 decides_by f injective 𝓓 = record { sound = λ x y e. injective x y (𝓓.sound (f x) (f y) e); reflexive = λ x. 𝓓.reflexive (f x) }
 
 pub natural_decides : Decides eqb
@@ -89,9 +90,6 @@ same_number_sound (negsuc m) (negsuc n) e = ap negsuc (eqb-true m n e)
 same_number_reflexive : (m : ℤ) → same_number m m ≡ true
 same_number_reflexive (pos m) = eq-eqb m m refl
 same_number_reflexive (negsuc m) = eq-eqb m m refl
-
-pub number_decides : Decides same_number
-number_decides = record { sound = same_number_sound; reflexive = same_number_reflexive }
 
 same_entry_sound : (x y : Entry) → same_entry x y ≡ true → x ≡ y
 same_entry_sound x y e =

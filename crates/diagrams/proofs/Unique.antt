@@ -122,10 +122,12 @@ module _ {X : Type 0} (s : Store X) where
         down : (b : Bool) → (λ l. reached blank s level (node n) (b ∷ l)) ≡ reached blank s (suc level) (cond b (node_at s n).high (node_at s n).low)
         down b = fun_ext (λ l. rw e)
 
-        low_down : reduce same left (suc level) (λ l. reached blank s level (node n) (false ∷ l)) (prefix i j) ≡ rooted (prefix i₁ j₁) (node_at s n).low
+        low_down : reduce same left (suc level) (λ l. reached blank s level (node n) (false ∷ l)) (prefix i j)
+            ≡ rooted (prefix i₁ j₁) (node_at s n).low
         low_down = ap (λ (f : Bits → X). reduce same left (suc level) f (prefix i j)) (down false) ∙ low
 
-        high_down : reduce same left (suc level) (λ l. reached blank s level (node n) (true ∷ l)) (prefix i₁ j₁) ≡ rooted (prefix i₂ j₂) (node_at s n).high
+        high_down : reduce same left (suc level) (λ l. reached blank s level (node n) (true ∷ l)) (prefix i₁ j₁)
+            ≡ rooted (prefix i₂ j₂) (node_at s n).high
         high_down = ap (λ (f : Bits → X). reduce same left (suc level) f (prefix i₁ j₁)) (down true) ∙ high
 
     child_rises : (level n : ℕ) (r : Ref) → eqb (node_at s n).level level ≡ true → From s (suc (node_at s n).level) r → From s (suc level) r
@@ -152,7 +154,8 @@ module _ {X : Type 0} (s : Store X) where
         (keep_next node_decides unused s.nodes no_two_nodes n (omega arith))
 
     -- a level that the reference does not ask for
-    rebuilds_passed : (left level : ℕ) (r : Ref) (i j i' j' : ℕ) → ((b : Bool) → (λ l. reached blank s level r (b ∷ l)) ≡ reached blank s (suc level) r)
+    rebuilds_passed : (left level : ℕ) (r : Ref) (i j i' j' : ℕ)
+        → ((b : Bool) → (λ l. reached blank s level r (b ∷ l)) ≡ reached blank s (suc level) r)
         → From s (suc level) r → Walk s r i j i' j' → Closed s i j → i' ≤ length s.nodes → j' ≤ length s.values → Rebuilds left (suc level)
         → reduce same (suc left) level (reached blank s level r) (prefix i j) ≡ rooted (prefix i' j') r
     rebuilds_passed left level r i j i' j' past from walk closed p q rebuilds =

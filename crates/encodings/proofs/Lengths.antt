@@ -43,4 +43,8 @@ pub list_long : (n : ℕ) (gs : List Gate)
     → length (list_bytes n gs) ≡ length (number_bytes n) + length (number_bytes (length gs)) + length (gates_bytes gs)
 unfolding list_bytes
 list_long n gs =
-    omega (arith, length-append (number_bytes n) (number_bytes (length gs) ++ gates_bytes gs), length-append (number_bytes (length gs)) (gates_bytes gs))
+    omega (
+      arith,
+      length-append (number_bytes n) (number_bytes (length gs) ++ gates_bytes gs),
+      length-append (number_bytes (length gs)) (gates_bytes gs),
+    )

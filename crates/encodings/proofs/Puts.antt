@@ -41,6 +41,9 @@ pub put_room : {s before between : List ℕ} {at next : ℕ} (t : List ℕ) → 
     → next + length t ≤ length between
 put_room {s} t p room = omega (arith, put_length p, p.place, length-append s t)
 
+pub wrote_then : {s t : List ℕ} {first between last : Writer} → Wrote s first between → Wrote t between last → Wrote (s ++ t) first last
+wrote_then v w = record { put = put_then v.put w.put; same_buffer = w.same_buffer ∙ v.same_buffer }
+
 -- ---- one run before another
 
 set_sets : (l : List ℕ) (i j : ℕ) (a : ℕ) (t : List ℕ) → i < j → set (sets l j t) i a ≡ sets (set l i a) j t
@@ -76,16 +79,14 @@ pub record Writing (v : ℕ) (old now : Writer) (rest group : ℕ) : Type 0 wher
   pub all : done ++ number_bytes rest ≡ number_bytes v
   pub small : rest < 2097152
   pub counted : groups rest + group ≡ groups v + 1
-  pub same_buffer : now.buffer.ghost_name ≡ old.buffer.ghost_name
 
 pub writing_none : (v : ℕ) (w : Writer) → v < 2097152 → Writing v w w v 1
 writing_none v w small = record {
   done = [];
-  wrote = record { place = omega arith; stored = refl };
+  wrote = record { put = record { place = omega arith; stored = refl }; same_buffer = refl };
   all = refl;
   small = small;
   counted = refl;
-  same_buffer = refl;
 }
 
 module _ {v : ℕ} {old now : Writer} {rest group : ℕ} (w : Writing v old now rest group) where
@@ -93,23 +94,21 @@ module _ {v : ℕ} {old now : Writer} {rest group : ℕ} (w : Writing v old now 
   pub writing_room : old.at + length (number_bytes v) ≤ length old.buffer.now → now.at < length now.buffer.now
   writing_room room =
       let left = length-append w.done (number_bytes rest) in
-      omega (arith, put_length w.wrote, w.wrote.place, ap length w.all, left, some_group rest w.small, groups_length rest w.small)
+      omega (arith, put_length w.wrote.put, w.wrote.put.place, ap length w.all, left, some_group rest w.small, groups_length rest w.small)
 
   module _ (next : Writer) where
-    pub writing_more : group < groups v → Wrote ((rest % 128 + 128) ∷ []) now next → next.buffer.ghost_name ≡ now.buffer.ghost_name
-        → Writing v old next (rest / 128) (group + 1)
-    writing_more more wrote same =
+    pub writing_more : group < groups v → Wrote ((rest % 128 + 128) ∷ []) now next → Writing v old next (rest / 128) (group + 1)
+    writing_more more wrote =
         let large = further_group rest w.small (omega (arith, w.counted)) in
         let byte = rest % 128 + 128 in
         record {
           done = w.done ++ (byte ∷ []);
-          wrote = put_then w.wrote wrote;
+          wrote = wrote_then w.wrote wrote;
           all =
               append_assoc w.done (byte ∷ []) (number_bytes (rest / 128))
               ∙ ap (λ (l : List ℕ). w.done ++ l) (sym (number_more rest large w.small)) ∙ w.all;
           small = omega (arith, w.small);
           counted = omega (arith, w.counted, groups_more rest large w.small);
-          same_buffer = same ∙ w.same_buffer;
         }
 
   module _ (last : groups v ≤ group) where
@@ -119,4 +118,4 @@ module _ {v : ℕ} {old now : Writer} {rest group : ℕ} (w : Writing v old now 
     pub writing_all : (next : Writer) → Wrote (rest ∷ []) now next → Wrote (number_bytes v) old next
     writing_all next wrote =
         let last : w.done ++ (rest ∷ []) ≡ number_bytes v = ap (λ (l : List ℕ). w.done ++ l) (sym (one_byte rest writing_last)) ∙ w.all in
-        subst (λ (l : List ℕ). Wrote l old next) last (put_then w.wrote wrote)
+        subst (λ (l : List ℕ). Wrote l old next) last (wrote_then w.wrote wrote)

@@ -8,6 +8,7 @@ pub record Put (bytes : List ℕ) (at : ℕ) (before after : List ℕ) (next : �
   pub place : next ≡ at + length bytes
   pub stored : after ≡ sets before at bytes
 
--- the writer goes on after them
-abbrev pub Wrote : List ℕ → Writer → Writer → Type 0
-Wrote bytes old new = Put bytes old.at old.buffer.now new.buffer.now new.at
+-- the writer goes on after them, in the same buffer
+pub record Wrote (bytes : List ℕ) (old new : Writer) : Type 0 where
+  pub put : Put bytes old.at old.buffer.now new.buffer.now new.at
+  pub same_buffer : new.buffer.ghost_name ≡ old.buffer.ghost_name

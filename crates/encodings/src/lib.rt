@@ -5,10 +5,10 @@ ghost use Rattle.std.specs.Prelude.{◌≡◌, [], ◌∷◌, ◌+◌, ◌<◌, 
 ghost use Rattle.encodings.specs.Encoding.{groups, number_bytes};
 ghost use Rattle.encodings.specs.Writing.{Wrote};
 
-const GROUP_BITS: u32 = 7;
+use circuits::GROUP;
 
-// How many numbers a group tells apart.
-const GROUP: u32 = 128;
+// The bits of a group.
+const GROUP_BITS: u32 = 7;
 
 // The top bit of a byte: another group follows.
 const MORE: u32 = 128;
@@ -32,8 +32,7 @@ impl Writer<'_> {
     // Writes a byte.
     fn byte(&mut self, value: u8)
         requires { self.old.at < length self.old.buffer.now }
-        ensures same_buffer { self.new.buffer.ghost_name ≡ self.old.buffer.ghost_name }
-        ensures wrote { Wrote (value ∷ []) self.old self.new }
+        ensures { Wrote (value ∷ []) self.old self.new }
     {
         self.buffer[self.at] = value;
         self.at += 1;
@@ -43,8 +42,7 @@ impl Writer<'_> {
     pub fn number(&mut self, v: u32)
         requires v_bound { v < 2097152 }
         requires v_in_bounds { self.old.at + length (number_bytes v) ≤ length self.old.buffer.now }
-        ensures same_buffer { self.new.buffer.ghost_name ≡ self.old.buffer.ghost_name }
-        ensures wrote { Wrote (number_bytes v) self.old self.new }
+        ensures { Wrote (number_bytes v) self.old self.new }
     {
         let mut rest = v;
         for _group in 1..group_count(v) {

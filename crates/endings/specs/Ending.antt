@@ -7,7 +7,7 @@ use Rattle.miters.specs.declared.Report.{Report}
 use Rattle.miters.specs.Report.{verdict, refused}
 use Rattle.cofactors.specs.Slots.{store_in, given}
 use Rattle.searches.specs.Ready.{Searchable}
-use Rattle.plans.specs.declared.Used.{Used}
+use Rattle.stores.specs.declared.Used.{Used}
 use Rattle.runs.specs.declared.Finish.{Finish}
 
 -- the part of the first store that is kept: none where the run was stopped

@@ -6,21 +6,14 @@ ghost use Rattle.stores.specs.Columns.{viewed};
 ghost use Rattle.endings.specs.Ending.{kept, Readable, report_of};
 
 use miters::{Refusal, Report};
-use plans::Used;
 use runs::Finish;
-use stores::View;
+use stores::{Used, View};
 
 // How much of the first store is kept after a run: nothing where it was refused.
 pub fn kept(ended: Result<Finish, Refusal>) -> Used
     ensures { result ≡ kept ended }
 {
-    match ended {
-        Ok(finish) => finish.used,
-        Err(_) => Used {
-            nodes: 0,
-            values: 0,
-        },
-    }
+    ended.map_or(Used::default(), |finish| finish.used)
 }
 
 // The report of a run, with the verdict read off the first store.
@@ -32,13 +25,13 @@ pub fn report(first: &View<'_>, n: u32, ended: Result<Finish, Refusal>) -> Repor
         Ok(finish) => {
             let Used { nodes, values } = finish.used;
             Report {
-                verdict: searches::read_verdict(first, nodes, values, n),
+                verdict: searches::read_verdict(first, finish.used, n),
                 exponent: finish.exponent,
                 steps: finish.steps,
                 nodes,
                 values,
             }
         }
-        Err(why) => miters::refused(why),
+        Err(why) => Report::from(why),
     }
 }

@@ -8,13 +8,13 @@ use Rattle.miters.specs.declared.Refusal.TheVariants.{Call, Byte, Step}
 use Rattle.miters.specs.declared.Verdict.{Verdict}
 use Rattle.miters.specs.declared.Verdict.TheVariants.{Equal, Different, Refused}
 use Rattle.miters.specs.declared.Report.{Report}
-use Rattle.miters.specs.Report.{number_of}
+use Rattle.miters.specs.Report.{part_number, number_of}
 use Rattle.fields.specs.declared.Reason.{Reason}
 
 -- "Returned" of the table: the number alone, or the list and the offset, or the steps finished before; 0 for what is not
 unfoldable pub reason_of : Refusal → Reason
 reason_of (Call fault) = record { number = number_of (Call fault); list = 0; offset = 0; steps = 0 }
-reason_of (Byte list why) = record { number = number_of (Byte list why); list = list; offset = why.offset; steps = 0 }
+reason_of (Byte list why) = record { number = number_of (Byte list why); list = part_number list; offset = why.offset; steps = 0 }
 reason_of (Step fault steps) = record { number = number_of (Step fault steps); list = 0; offset = 0; steps = steps }
 
 -- "exponent, steps finished, nodes used and values used" after the kind, and the others

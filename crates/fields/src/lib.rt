@@ -45,7 +45,7 @@ impl From<Refusal> for Reason {
         match why {
             Refusal::Call(_) => alone,
             Refusal::Byte { list, why } => Reason {
-                list: u64::from(list),
+                list: list as u64,
                 offset: why.offset as u64,
                 ..alone
             },

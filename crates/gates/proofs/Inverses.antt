@@ -119,15 +119,17 @@ swapped_undone n P p q p<n q<n p_free q_free = record { at = at_entries }
 
 -- the inverse has the same controls and targets
 lines_undone : (n : ℕ) (g : Gate) → Fits n g
-    → Alike n (product n (line_of g (gate_rule g).left) (line_of (inverse g) (gate_rule (inverse g)).left)) (scaled (√2^ (halves g + halves g)) identity)
+    → Alike n (product n (line_of g (gate_rule g).left) (line_of (inverse g) (gate_rule (inverse g)).left))
+    (scaled (√2^ (halves g + halves g)) identity)
 lines_undone n (on k q) h =
-    on_target_undone n (left_matrix (kind_rule k)) (left_matrix (kind_rule (inverse_kind k))) (λ i. false) q (halves (on k q) + halves (on k q)) h refl
-    (λ l x y. rw (all_set_none l) (kind_undone k q x y))
+    on_target_undone n (left_matrix (kind_rule k)) (left_matrix (kind_rule (inverse_kind k))) (λ i. false) q
+    (halves (on k q) + halves (on k q)) h refl (λ l x y. rw (all_set_none l) (kind_undone k q x y))
 lines_undone n (pair k p q) h =
     on_target_undone n (left_matrix (pair_rule k)) (left_matrix (pair_rule k)) (is p) q 0 h.1 (is_apart p q h.2)
     (λ l. pair_undone k (all_set (is p) l))
 lines_undone n (toffoli mask q) h =
-    on_target_undone n (left_matrix toffoli_rule) (left_matrix toffoli_rule) (in_mask mask) q 0 h.1 h.2 (λ l. toffoli_undone (all_set (in_mask mask) l))
+    on_target_undone n (left_matrix toffoli_rule) (left_matrix toffoli_rule) (in_mask mask) q 0 h.1 h.2
+    (λ l. toffoli_undone (all_set (in_mask mask) l))
 lines_undone n (fredkin mask p q) h = swapped_undone n (in_mask mask) p q h.1.0 h.2.0 h.1.1 h.2.1
 
 pub inverse_fits : (n : ℕ) (g : Gate) → Fits n g → Fits n (inverse g)
@@ -172,5 +174,5 @@ inverse_halves (fredkin mask p q) = refl
 pub inverse_gate : (n : ℕ) (g : Gate) → Fits n g → Alike n (product n (matrix (inverse g)) (matrix g)) (scaled (√2^ (halves g + halves g)) identity)
 inverse_gate n g h =
     subst (λ k. Alike n (product n (matrix (inverse g)) (matrix g)) (scaled (√2^ (k + k)) identity)) (inverse_halves g)
-    (subst (λ x. Alike n (product n (matrix (inverse g)) (matrix x)) (scaled (√2^ (halves (inverse g) + halves (inverse g))) identity)) (inverse_inverse g)
-    (gate_inverse n (inverse g) (inverse_fits n g h)))
+    (subst (λ x. Alike n (product n (matrix (inverse g)) (matrix x)) (scaled (√2^ (halves (inverse g) + halves (inverse g))) identity))
+    (inverse_inverse g) (gate_inverse n (inverse g) (inverse_fits n g h)))

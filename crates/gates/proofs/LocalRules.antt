@@ -16,10 +16,11 @@ use Rattle.algebra.proofs.Sums.{beq_sym, total_ext}
 use Rattle.algebra.proofs.Matrices.{product_transpose}
 use Rattle.gates.specs.declared.Phases.{Phases}
 use Rattle.gates.specs.declared.Rule.{Rule}
+use Rattle.gates.specs.declared.Act.TheVariants.{Swaps}
 use Rattle.gates.specs.Gate.{Kind, Z, S, S†, T, T†, X, Y, H, Pair, CZ, CNOT, Gate, on, pair, toffoli, fredkin, small, table}
 use Rattle.gates.specs.Gate.{is, bit, agree, agree_in, in_mask, all_set, exchanged, names, matrix, Fits}
 use Rattle.gates.specs.Rule.{phase, acting, controlled, kind_rule, pair_rule, toffoli_rule, fredkin_rule, gate_rule, controls, target}
-use Rattle.gates.specs.Rule.{second, mixed, moved, acted}
+use Rattle.gates.specs.Rule.{second, mixed, moved, acted, does_flip, does_mix, does_swap}
 use Rattle.gates.proofs.Naming.{is_sound, without, without_first, without_controls, exchanged_ordered, all_set_agree}
 use Rattle.gates.proofs.Naming.{agree_and, agree_sym, agree_without, total_agree, spread_one}
 use Rattle.gates.proofs.Rules.{kind_right, kind_left, pair_right, pair_left, toffoli_data}
@@ -71,12 +72,12 @@ row_times_mixed true f =
     f false ⊕ neg (f true) ≡⟨ sym (⊖-is (f false) (f true)) ⟩
     f false ⊖ f true ∎
 
-acted_is : (rule : Rule) (p : Phases) (P : ℕ → Bool) (q q' : ℕ) (F : Bits → Entry) (l : Bits) → rule.swaps ≡ false
+acted_is : (rule : Rule) (p : Phases) (P : ℕ → Bool) (q q' : ℕ) (F : Bits → Entry) (l : Bits) → does_swap rule.act ≡ false
     → row_times (where_set (acting rule p) (all_set P l)) (bit l q) (λ b. F (set l q b)) ≡ acted rule p P q q' F l
 unfolding acted
 acted_is rule p P q q' F l alone =
-    cases (all_set P l) rule.mixes rule.flips
-    ∙ ap (λ b. cond (all_set P l) (cond rule.mixes (mixed q F l) (cond b (F (exchanged q q' l)) (moved rule p q F l))) (F l)) (sym alone)
+    cases (all_set P l) (does_mix rule.act) (does_flip rule.act)
+    ∙ ap (λ b. cond (all_set P l) (cond (does_mix rule.act) (mixed q F l) (cond b (F (exchanged q q' l)) (moved rule p q F l))) (F l)) (sym alone)
   where
     at : Bool → Entry
     at b = F (set l q b)
@@ -176,7 +177,8 @@ line_of (fredkin mask p' q) p l x = swapped_line (in_mask mask) p' q l x
 pub matrix_left : (n : ℕ) (g : Gate) → Fits n g → (r c : Bits) → length r ≡ n → matrix g r c ≡ line_of g (gate_rule g).left r c
 unfolding matrix
 matrix_left n (on k q) h r c e =
-    ap₂ (λ x b. cond (agree (is q) r c) (cond b x (cond (beq (bit r q) (bit c q)) 𝟙 𝟘)) 𝟘) (sym (kind_left k (bit r q) (bit c q))) (sym (all_set_none r))
+    ap₂ (λ x b. cond (agree (is q) r c) (cond b x (cond (beq (bit r q) (bit c q)) 𝟙 𝟘)) 𝟘)
+    (sym (kind_left k (bit r q) (bit c q))) (sym (all_set_none r))
 matrix_left n (pair k p q) h r c e =
     ap (λ x. cond (agree (λ i. is p i || is q i) r c) x 𝟘) (sym (pair_left k (bit r p) (bit r q) (bit c p) (bit c q)))
     ∙ one_control p q (acting (pair_rule k) (pair_rule k).left) h.2 r c (omega (arith, h.0))
@@ -225,8 +227,8 @@ matrix_right n (pair k p q) h r c e f =
     ∙ one_control p q (acting (pair_rule k) (pair_rule k).right) h.2 c r (omega (arith, h.0))
 matrix_right n (toffoli mask q) h r c e f =
     matrix_left n (toffoli mask q) h r c e
-    ∙ on_target_sym (acting toffoli_rule toffoli_rule.right) (λ x y. (toffoli_data x y).1 ∙ small_X_sym x y ∙ sym (toffoli_data y x).1) (in_mask mask) q
-    h.2 r c
+    ∙ on_target_sym (acting toffoli_rule toffoli_rule.right) (λ x y. (toffoli_data x y).1 ∙ small_X_sym x y ∙ sym (toffoli_data y x).1)
+    (in_mask mask) q h.2 r c
 matrix_right n (fredkin mask p q) h r c e f =
     matrix_left n (fredkin mask p q) h r c e
     ∙ ap (λ b. cond b 𝟙 𝟘) (swapped_sym (in_mask mask) p q h.1.1 h.2.1 r c
@@ -247,22 +249,23 @@ second_fits n (toffoli mask q) h = h.1
 second_fits n (fredkin mask p q) h = omega (arith, h.1.0, h.2.0)
 
 -- a sum over a line on one target is the local rule, and so is one over a line with two targets
-on_target_acts : (n : ℕ) (rule : Rule) (p : Phases) (P : ℕ → Bool) (q q' : ℕ) → rule.swaps ≡ false → q < n → (F : Bits → Entry) (l : Bits) → length l ≡ n
-    → total n (λ x. on_target (acting rule p) P q l x ⊗ F x) ≡ acted rule p P q q' F l
+on_target_acts : (n : ℕ) (rule : Rule) (p : Phases) (P : ℕ → Bool) (q q' : ℕ) → does_swap rule.act ≡ false → q < n
+    → (F : Bits → Entry) (l : Bits) → length l ≡ n → total n (λ x. on_target (acting rule p) P q l x ⊗ F x) ≡ acted rule p P q q' F l
 on_target_acts n rule p P q q' alone h F l e = on_target_sum n (acting rule p) P q F l h e ∙ acted_is rule p P q q' F l alone
 
-swapped_acts : (n : ℕ) (P : ℕ → Bool) (p q : ℕ) (ph : Phases) (rule : Rule) → rule.swaps ≡ true → rule.mixes ≡ false
+swapped_acts : (n : ℕ) (P : ℕ → Bool) (p q : ℕ) (ph : Phases) (rule : Rule) → rule.act ≡ Swaps
     → (F : Bits → Entry) (l : Bits) → length l ≡ n → total n (λ x. swapped_line P p q l x ⊗ F x) ≡ acted rule ph P (min p q) (max p q) F l
 unfolding acted
-swapped_acts n P p q ph rule swaps moves F l e =
+swapped_acts n P p q ph rule swaps F l e =
     swapped_sum n P p q F l e ∙ cases (all_set P l)
   where
     cases : (b : Bool) → F (cond b (exchanged p q l) l)
-        ≡ cond b (cond rule.mixes (mixed (min p q) F l) (cond rule.swaps (F (exchanged (min p q) (max p q) l)) (moved rule ph (min p q) F l))) (F l)
-    cases true = rw (moves, swaps) (ap F (exchanged_ordered p q l))
+        ≡ cond b (cond (does_mix rule.act) (mixed (min p q) F l)
+        (cond (does_swap rule.act) (F (exchanged (min p q) (max p q) l)) (moved rule ph (min p q) F l))) (F l)
+    cases true = rw swaps (ap F (exchanged_ordered p q l))
     cases false = refl
 
-pub kind_alone : (k : Kind) → (kind_rule k).swaps ≡ false
+pub kind_alone : (k : Kind) → does_swap (kind_rule k).act ≡ false
 kind_alone Z = refl
 kind_alone S = refl
 kind_alone S† = refl
@@ -272,7 +275,7 @@ kind_alone X = refl
 kind_alone Y = refl
 kind_alone H = refl
 
-pub pair_alone : (k : Pair) → (pair_rule k).swaps ≡ false
+pub pair_alone : (k : Pair) → does_swap (pair_rule k).act ≡ false
 pair_alone CZ = refl
 pair_alone CNOT = refl
 
@@ -286,7 +289,7 @@ line_acts n g h p line F l e is_line = total_ext n _ _ (λ x k. ap (λ y. y ⊗ 
     acts (on k q) h = on_target_acts n (kind_rule k) p (λ i. false) q q (kind_alone k) h F l e
     acts (pair k p' q) h = on_target_acts n (pair_rule k) p (is p') q q (pair_alone k) h.1 F l e
     acts (toffoli mask q) h = on_target_acts n toffoli_rule p (in_mask mask) q q refl h.1 F l e
-    acts (fredkin mask p' q) h = swapped_acts n (in_mask mask) p' q p fredkin_rule refl refl F l e
+    acts (fredkin mask p' q) h = swapped_acts n (in_mask mask) p' q p fredkin_rule refl F l e
 
 pub product_right : (n : ℕ) (g : Gate) → Fits n g → (M : Matrix) (r c : Bits) → length c ≡ n
     → product n M (matrix g) r c ≡ acted (gate_rule g) (gate_rule g).right (controls g) (target g) (second g) (M r) c

@@ -112,7 +112,8 @@ all_set_agree P named [] [] free e = refl
 all_set_agree P named [] (y ∷ c) free e = absurd (true≢false (sym e))
 all_set_agree P named (x ∷ r) [] free e = absurd (true≢false (sym e))
 all_set_agree P named (x ∷ r) (y ∷ c) free e =
-    first (P 0) (named 0) x y (free 0) (agree (λ i. named (suc i)) r c) e (all_set_agree (λ i. P (suc i)) (λ i. named (suc i)) r c (λ i. free (suc i)))
+    first (P 0) (named 0) x y (free 0) (agree (λ i. named (suc i)) r c) e
+    (all_set_agree (λ i. P (suc i)) (λ i. named (suc i)) r c (λ i. free (suc i)))
   where
     first : (a b x y : Bool) → (b ≡ true → a ≡ false) → (k : Bool) → ((b || beq x y) && k) ≡ true
         → (k ≡ true → all_set (λ i. P (suc i)) r ≡ all_set (λ i. P (suc i)) c)
@@ -157,7 +158,8 @@ agree_none (x ∷ r) [] = refl
 agree_none (x ∷ r) (y ∷ c) = ap (λ k. beq x y && k) (agree_none r c)
 
 -- to agree in one named qubit too is to agree with that qubit not named
-pub agree_without : (named : ℕ → Bool) (r c : Bits) (q : ℕ) → q < length r → (agree named r c && beq (bit r q) (bit c q)) ≡ agree (without named q) r c
+pub agree_without : (named : ℕ → Bool) (r c : Bits) (q : ℕ) → q < length r
+    → (agree named r c && beq (bit r q) (bit c q)) ≡ agree (without named q) r c
 agree_without named [] c q h = absurd (omega arith)
 agree_without named (x ∷ r) [] q h = refl
 agree_without named (x ∷ r) (y ∷ c) zero h = simp and-true (here (named 0) (beq x y) (agree (λ i. named (suc i)) r c))
@@ -191,7 +193,8 @@ spread named (x ∷ r) f =
     let below : (Bits → Entry) → Entry = spread (λ i. named (suc i)) r in
     cond (named 0) (below (at_bit false f) ⊕ below (at_bit true f)) (below (at_bit x f))
 
-pub total_agree : (n : ℕ) (named : ℕ → Bool) (r : Bits) (f : Bits → Entry) → length r ≡ n → total n (λ l. cond (agree named r l) (f l) 𝟘) ≡ spread named r f
+pub total_agree : (n : ℕ) (named : ℕ → Bool) (r : Bits) (f : Bits → Entry) → length r ≡ n
+    → total n (λ l. cond (agree named r l) (f l) 𝟘) ≡ spread named r f
 unfolding total
 total_agree zero named [] f e = refl
 total_agree (suc n) named [] f e = absurd (omega arith)

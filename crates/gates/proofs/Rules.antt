@@ -4,14 +4,15 @@ use mathlib.Core.Path.{◌≡◌, refl, sym, ◌∙◌, ap, subst⁻¹}
 use mathlib.Core.Bool.{Bool, true, false}
 use Prim.Native.Nat.{ℕ, ◌≤◌}
 use lib.ListN.{get_or-eq_default}
-use Rattle.std.specs.Prelude.{Option, Some, None}
+use Rattle.std.specs.Prelude.{Option, Some}
 use Rattle.algebra.specs.Entry.{𝟙, neg, turned, times_w8}
 use Rattle.gates.specs.Gate.{Kind, Z, S, S†, T, T†, X, Y, H, Pair, CZ, CNOT, Meant, one, two, mask_one, mask_two, unknown, codes, meant}
 use Rattle.gates.specs.Gate.{small, small_pair, inverse_kind}
 use Rattle.gates.specs.Code.{code_number}
 use Rattle.gates.specs.declared.Code.{Code}
 use Rattle.gates.specs.declared.Rule.{Rule}
-use Rattle.gates.specs.Rule.{kind_rule, pair_rule, toffoli_rule, code_rule, right_matrix, left_matrix, controlled, rule_of, decision, Published, Decided}
+use Rattle.gates.specs.Rule.{kind_rule, pair_rule, toffoli_rule, code_rule, right_matrix, left_matrix, controlled}
+use Rattle.gates.specs.Rule.{rule_of, decision, Published, Decided}
 
 -- what holds at each of the four pairs of bits holds at every pair
 pub four : (P : Bool → Bool → Type 0) → P false false → P false true → P true false → P true true → (x y : Bool) → P x y
@@ -57,7 +58,8 @@ kind_inverse H = refl
 
 abbrev PairData : Pair → Bool → Bool → Bool → Bool → Type 0
 PairData k c t c' t' =
-    (controlled (right_matrix (pair_rule k)) c t c' t' ≡ small_pair k c t c' t') × (controlled (left_matrix (pair_rule k)) c t c' t' ≡ small_pair k c t c' t')
+    (controlled (right_matrix (pair_rule k)) c t c' t' ≡ small_pair k c t c' t')
+    × (controlled (left_matrix (pair_rule k)) c t c' t' ≡ small_pair k c t c' t')
 
 pair_data : (k : Pair) (c t c' t' : Bool) → PairData k c t c' t'
 unfolding turned times_w8 neg 𝟙
@@ -94,7 +96,7 @@ unfolding meant
 published (one k) = (kind_right k, kind_left k, kind_inverse k)
 published (two k) = (pair_right k, pair_left k, pair_inverse k)
 published mask_one = ((λ x y. (toffoli_data x y).0), (λ x y. (toffoli_data x y).1), refl)
-published mask_two = (refl, refl, refl, refl, refl)
+published mask_two = (refl, refl, refl, refl)
 published unknown = tt
 
 pub decided : (code : ℕ) {r : Option Rule} → r ≡ decision code → Decided code r
@@ -124,7 +126,3 @@ code_decided c {code} at is = decided (code_number code) (ap Some (is ∙ sym (a
 pub past_codes : (number : ℕ) → 12 ≤ number → meant number ≡ unknown
 unfolding meant
 past_codes number past = get_or-eq_default codes unknown past
-
-pub no_code_decided : (number : ℕ) → 12 ≤ number → Decided number None
-unfolding decision
-no_code_decided number past = decided number (ap rule_of (sym (past_codes number past)))

@@ -11,10 +11,35 @@ use Rattle.gates.specs.Gate.{Meant, one, two, mask_one, mask_two, unknown, meant
 use Rattle.gates.specs.Gate.{is, bit, table, small, small_pair, in_mask, all_set, exchanged, inverse_kind}
 use Rattle.gates.specs.declared.Phases.{Phases}
 use Rattle.gates.specs.declared.Operands.{Operands}
-use Rattle.gates.specs.declared.Operands.TheVariants.{Qubit, Controlled, Masked}
+use Rattle.gates.specs.declared.Operands.TheVariants.{Qubit, Controlled, Masked, Exchanging}
+use Rattle.gates.specs.declared.Act.{Act}
+use Rattle.gates.specs.declared.Act.TheVariants.{Keeps, Flips, Mixes, Swaps}
 use Rattle.gates.specs.declared.Rule.{Rule}
 use Rattle.gates.specs.declared.Code.{Code}
 use Rattle.gates.specs.Code.{code_number}
+
+-- ---- what a gate does at its target, case by case
+
+-- it takes the entry at the flipped bit
+abbrev pub does_flip : Act → Bool
+does_flip Keeps = false
+does_flip Flips = true
+does_flip Mixes = false
+does_flip Swaps = false
+
+-- it mixes the two entries, as H
+abbrev pub does_mix : Act → Bool
+does_mix Keeps = false
+does_mix Flips = false
+does_mix Mixes = true
+does_mix Swaps = false
+
+-- it takes the entry with the bits of its two targets exchanged
+abbrev pub does_swap : Act → Bool
+does_swap Keeps = false
+does_swap Flips = false
+does_swap Mixes = false
+does_swap Swaps = true
 
 -- ---- the data of each code
 
@@ -23,16 +48,15 @@ phases z o = record { zero = z; one = o }
 
 -- diagonal: the same from both sides
 abbrev pub diagonal : Operands → ℕ → Code → Rule
-diagonal operands power undo =
-    record { operands = operands; mixes = false; flips = false; swaps = false; right = phases 0 power; left = phases 0 power; inverse = undo }
+diagonal operands power undo = record { operands = operands; act = Keeps; right = phases 0 power; left = phases 0 power; inverse = undo }
 
+-- the target's bit is flipped, and the entry turned by the powers of the side
 abbrev pub flipping : Operands → Phases → Phases → Code → Rule
-flipping operands r l undo = record { operands = operands; mixes = false; flips = true; swaps = false; right = r; left = l; inverse = undo }
+flipping operands r l undo = record { operands = operands; act = Flips; right = r; left = l; inverse = undo }
 
 -- a gate that mixes its target's two entries, or exchanges the bits of its two targets
-abbrev pub unturned : Operands → Bool → Bool → Code → Rule
-unturned operands mixes swaps undo =
-    record { operands = operands; mixes = mixes; flips = false; swaps = swaps; right = phases 0 0; left = phases 0 0; inverse = undo }
+abbrev pub unturned : Operands → Act → Code → Rule
+unturned operands act undo = record { operands = operands; act = act; right = phases 0 0; left = phases 0 0; inverse = undo }
 
 abbrev pub kind_rule : Kind → Rule
 kind_rule Z = diagonal Qubit 4 Code.Z
@@ -42,7 +66,7 @@ kind_rule T = diagonal Qubit 1 Code.TDagger
 kind_rule T† = diagonal Qubit 7 Code.T
 kind_rule X = flipping Qubit (phases 0 0) (phases 0 0) Code.X
 kind_rule Y = flipping Qubit (phases 2 6) (phases 6 2) Code.Y
-kind_rule H = unturned Qubit true false Code.H
+kind_rule H = unturned Qubit Mixes Code.H
 
 abbrev pub pair_rule : Pair → Rule
 pair_rule CZ = diagonal Controlled 4 Code.Cz
@@ -50,10 +74,10 @@ pair_rule CNOT = flipping Controlled (phases 0 0) (phases 0 0) Code.Cnot
 
 -- "Code 10 needs at least two controls and code 11 at least one"
 abbrev pub toffoli_rule : Rule
-toffoli_rule = flipping (Masked 2 1) (phases 0 0) (phases 0 0) Code.Toffoli
+toffoli_rule = flipping (Masked 2) (phases 0 0) (phases 0 0) Code.Toffoli
 
 abbrev pub fredkin_rule : Rule
-fredkin_rule = unturned (Masked 1 2) false true Code.Fredkin
+fredkin_rule = unturned (Exchanging 1) Swaps Code.Fredkin
 
 -- by the code
 abbrev pub code_rule : Code → Rule
@@ -89,11 +113,11 @@ phase p true = p.one
 
 -- the target's bit that an entry is taken from
 abbrev pub flipped : Rule → Bool → Bool
-flipped rule x = cond rule.flips (not x) x
+flipped rule x = cond (does_flip rule.act) (not x) x
 
 -- by the target's bit of the entry made, then of the entry it is made from: both with H's signs, or the flipped bit's with a power of w8
 abbrev pub acting : Rule → Phases → Bool → Bool → Entry
-acting rule p x y = cond rule.mixes (table 𝟙 𝟙 𝟙 (neg 𝟙) x y) (cond (beq (flipped rule x) y) (w8^ (phase p x)) 𝟘)
+acting rule p x y = cond (does_mix rule.act) (table 𝟙 𝟙 𝟙 (neg 𝟙) x y) (cond (beq (flipped rule x) y) (w8^ (phase p x)) 𝟘)
 
 -- from the right a column is made from columns, from the left a row from rows
 abbrev pub right_matrix : Rule → Bool → Bool → Entry
@@ -118,10 +142,11 @@ Published (two k) (Some rule) =
     × (meant (code_number rule.inverse) ≡ two k)
 Published (two k) None = ⊥
 Published mask_one (Some rule) =
-    ((x y : Bool) → right_matrix rule x y ≡ small X x y) × ((x y : Bool) → left_matrix rule x y ≡ small X x y) × (meant (code_number rule.inverse) ≡ mask_one)
+    ((x y : Bool) → right_matrix rule x y ≡ small X x y) × ((x y : Bool) → left_matrix rule x y ≡ small X x y)
+    × (meant (code_number rule.inverse) ≡ mask_one)
 Published mask_one None = ⊥
-Published mask_two (Some rule) = (rule.swaps ≡ true) × (rule.mixes ≡ false) × (rule.right ≡ phases 0 0) × (rule.left ≡ phases 0 0)
-    × (meant (code_number rule.inverse) ≡ mask_two)
+Published mask_two (Some rule) =
+    (rule.act ≡ Swaps) × (rule.right ≡ phases 0 0) × (rule.left ≡ phases 0 0) × (meant (code_number rule.inverse) ≡ mask_two)
 Published mask_two None = ⊥
 Published unknown (Some rule) = ⊥
 Published unknown None = Unit {0}
@@ -162,9 +187,9 @@ abbrev pub mixed : ℕ → (Bits → Entry) → Bits → Entry
 mixed q F l = cond (bit l q) (F (set l q false) ⊖ F (set l q true)) (F (set l q false) ⊕ F (set l q true))
 
 abbrev pub moved : Rule → Phases → ℕ → (Bits → Entry) → Bits → Entry
-moved rule p q F l = turned (phase p (bit l q)) (F (cond rule.flips (set l q (not (bit l q))) l))
+moved rule p q F l = turned (phase p (bit l q)) (F (cond (does_flip rule.act) (set l q (not (bit l q))) l))
 
 -- the entries after the gate, from those before it: F is a column's entries by row, or a row's by column
 unfoldable pub acted : Rule → Phases → (ℕ → Bool) → ℕ → ℕ → (Bits → Entry) → Bits → Entry
 acted rule p P q q' F l =
-    cond (all_set P l) (cond rule.mixes (mixed q F l) (cond rule.swaps (F (exchanged q q' l)) (moved rule p q F l))) (F l)
+    cond (all_set P l) (cond (does_mix rule.act) (mixed q F l) (cond (does_swap rule.act) (F (exchanged q q' l)) (moved rule p q F l))) (F l)

@@ -3,7 +3,7 @@
 
 ghost use Rattle.std.specs.Prelude.{◌≡◌, true, false};
 ghost use Rattle.gates.specs.Code.{code_number, Numbered};
-ghost use Rattle.gates.specs.Rule.{diagonal, flipping, unturned, code_rule, Decided};
+ghost use Rattle.gates.specs.Rule.{diagonal, flipping, unturned, code_rule, phase, Decided};
 
 // The codes of the gates, by number. There are no others.
 #[derive(Clone, Copy, PartialEq, Eq, Debug)]
@@ -50,6 +50,14 @@ impl TryFrom<u32> for Code {
     }
 }
 
+impl From<Code> for u32 {
+    ghost from_gives = { λ code number. number ≡ code_number code };
+
+    fn from(code: Code) -> u32 {
+        code as u32
+    }
+}
+
 // The powers of w8 by which an entry is multiplied, by the target's bit.
 #[derive(Clone, Copy)]
 pub struct Phases {
@@ -57,44 +65,61 @@ pub struct Phases {
     pub one: u32,
 }
 
-// What follows a gate's code: a qubit; a control and a target; a mask of at least so many controls and so many targets.
+impl Phases {
+    // The power at the target's bit.
+    #[inline]
+    pub fn at(self, bit: bool) -> u32
+        ensures { result ≡ phase self bit }
+    {
+        if bit { self.one } else { self.zero }
+    }
+}
+
+// What follows a gate's code: a qubit; a control and a target; a mask of at least so many controls, and a target to act on or two whose
+// bits are exchanged.
 #[derive(Clone, Copy)]
 pub enum Operands {
     Qubit,
     Controlled,
-    Masked { least: u32, targets: u32 },
+    Masked { least: u32 },
+    Exchanging { least: u32 },
 }
 
-// A gate's data. Where every control is 1 it acts: it mixes its target's two entries, or takes the entry with its two targets' bits
-// swapped, or the one at the target's bit, flipped or not, times a power of w8. The powers differ by side for Y.
+// What a gate does at its target where every control is 1: it takes the entry at the target's bit or at the flipped bit, times a power of
+// w8; or it mixes the target's two entries; or it takes the entry with its two targets' bits swapped.
+#[derive(Clone, Copy, PartialEq, Eq, Debug)]
+pub enum Act {
+    Keeps,
+    Flips,
+    Mixes,
+    Swaps,
+}
+
+// A gate's data: what follows its code, what it does at its target, the powers of w8 by side, which differ for Y, and its inverse's code.
 #[derive(Clone, Copy)]
 pub struct Rule {
     pub operands: Operands,
-    pub mixes: bool,
-    pub flips: bool,
-    pub swaps: bool,
+    pub act: Act,
     pub right: Phases,
     pub left: Phases,
     pub inverse: Code,
 }
 
+// Three makers of a gate's data, as the definitions have them: one for all would be handed in each call what the other two leave alike.
+
 // Diagonal: 1 at bit 0 and w8 to the power at bit 1, from both sides.
 fn diagonal(operands: Operands, power: u32, inverse: Code) -> Rule
     ensures { result ≡ diagonal operands power inverse }
 {
+    let powers = Phases {
+        zero: 0,
+        one: power,
+    };
     Rule {
         operands,
-        mixes: false,
-        flips: false,
-        swaps: false,
-        right: Phases {
-            zero: 0,
-            one: power,
-        },
-        left: Phases {
-            zero: 0,
-            one: power,
-        },
+        act: Act::Keeps,
+        right: powers,
+        left: powers,
         inverse,
     }
 }
@@ -105,25 +130,21 @@ fn flipping(operands: Operands, right: Phases, left: Phases, inverse: Code) -> R
 {
     Rule {
         operands,
-        mixes: false,
-        flips: true,
-        swaps: false,
+        act: Act::Flips,
         right,
         left,
         inverse,
     }
 }
 
-// The target's two entries are mixed, or the bits of two targets are exchanged.
-fn unturned(operands: Operands, mixes: bool, swaps: bool, inverse: Code) -> Rule
-    ensures { result ≡ unturned operands mixes swaps inverse }
+// No entry is turned by a power of w8: the target's two entries are mixed, or the bits of two targets are exchanged.
+fn unturned(operands: Operands, act: Act, inverse: Code) -> Rule
+    ensures { result ≡ unturned operands act inverse }
 {
     let plain = Phases { zero: 0, one: 0 };
     Rule {
         operands,
-        mixes,
-        flips: false,
-        swaps,
+        act,
         right: plain,
         left: plain,
         inverse,
@@ -131,13 +152,6 @@ fn unturned(operands: Operands, mixes: bool, swaps: bool, inverse: Code) -> Rule
 }
 
 impl Code {
-    // Its number, which stands in a list.
-    pub fn number(self) -> u32
-        ensures { result ≡ code_number self }
-    {
-        self as u32
-    }
-
     // A gate's data, by kind, each dagger after its gate: diagonal, then flips and swaps, then H. docs/GATES.md goes through them.
     pub fn rule(self) -> Rule
         ensures is { result ≡ code_rule self }
@@ -148,14 +162,8 @@ impl Code {
         let left_of_y = Phases { zero: 6, one: 2 };
         let one = Operands::Qubit;
         let two = Operands::Controlled;
-        let flipped = Operands::Masked {
-            least: 2,
-            targets: 1,
-        };
-        let swapped = Operands::Masked {
-            least: 1,
-            targets: 2,
-        };
+        let flipped = Operands::Masked { least: 2 };
+        let swapped = Operands::Exchanging { least: 1 };
         match self {
             Code::Z => diagonal(one, 4, Code::Z),
             Code::S => diagonal(one, 2, Code::SDagger),
@@ -167,18 +175,8 @@ impl Code {
             Code::Y => flipping(one, right_of_y, left_of_y, Code::Y),
             Code::Cnot => flipping(two, plain, plain, Code::Cnot),
             Code::Toffoli => flipping(flipped, plain, plain, Code::Toffoli),
-            Code::Fredkin => unturned(swapped, false, true, Code::Fredkin),
-            Code::H => unturned(one, true, false, Code::H),
+            Code::Fredkin => unturned(swapped, Act::Swaps, Code::Fredkin),
+            Code::H => unturned(one, Act::Mixes, Code::H),
         }
-    }
-}
-
-// The data of the gate with this code, if there is one.
-pub fn decide(code: u32) -> Option<Rule>
-    ensures { Decided code result }
-{
-    match Code::try_from(code) {
-        Ok(known) => Some(known.rule()),
-        Err(UnknownCode) => None,
     }
 }

@@ -6,12 +6,15 @@ use Prim.Native.Nat.{ℕ, zero, suc, ◌+◌, ◌*◌, ◌-◌, ◌<◌, ◌≤�
 use native.Mathlib.Numerals.{add-one}
 use native.Mathlib.Omega.{arith}
 use lib.IntN.{ℤ, pos}
-use lib.ListN.{length, drop, set, length-set, length-append, length-map}
+use lib.ListN.{length, take, drop, length-append, length-map}
+use lib.Seq.{take_at}
 use Rattle.algebra.specs.Entry.{𝟘, 𝟙}
 use Rattle.diagrams.specs.Diagram.{value, node, Node, branch, code}
-use Rattle.stores.specs.Columns.{Columns, columns, over, NodeColumns, NodesWritten, Published}
-use Rattle.identities.specs.Identity.{identity_root, identity_nodes, QubitSet}
-use Rattle.stores.proofs.Filling.{patch_snoc}
+use Rattle.stores.specs.Columns.{Columns, columns, over, NodesWritten, Published}
+use Rattle.identities.specs.Identity.{identity_root, identity_nodes, put_from, QubitSet}
+use borrow.Rule.Slice.PartMut.{put_mid}
+use Rattle.std.proofs.lemmas.List.{drop-drop}
+use Rattle.std.proofs.lemmas.Slice.{drop-append-drop}
 
 -- three nodes a qubit
 pub length_identity : (level n : ℕ) → length (identity_nodes level n) ≡ 3 * n
@@ -22,87 +25,63 @@ length_identity level (suc n) =
 
 -- ---- written
 
-over_snoc : {A : Type 0} (l old : List A) (x : A) (i : ℕ) → i ≡ length l → i < length old → set (over l old) i x ≡ over (l ++ (x ∷ [])) old
-over_snoc {A} l old x i e below =
-    ap (λ (k : ℕ). set (l ++ drop k old) i x) (sym e)
-    ∙ patch_snoc 0 l old x i (omega arith) (omega arith) below
-    ∙ ap (λ (k : ℕ). (l ++ (x ∷ [])) ++ drop k old) longer
+-- numbers put behind those that stand over a column
+over_more : {A : Type 0} (m part l : List A) (from : ℕ) → length m ≡ from
+    → take from (over m l) ++ (part ++ drop (from + length part) (over m l)) ≡ over (m ++ part) l
+over_more m part l from long =
+    ap₂ ◌++◌ (take_at m _ from long) (ap (λ (past : List _). part ++ past) rest)
+    ∙ sym (append_assoc m part _)
+    ∙ ap (λ (k : ℕ). (m ++ part) ++ drop k l) (omega (arith, length-append m part))
   where
-    longer : i + 1 ≡ length (l ++ (x ∷ []))
-    longer = omega (arith, length-append l (x ∷ []))
+    rest : drop (from + length part) (over m l) ≡ drop (from + length part) l
+    rest = ap (λ (k : ℕ). drop (from + length part) (m ++ drop k l)) long ∙ drop-append-drop from l m (from + length part) (omega arith) long
 
 -- the identity's values
-pub pairs_published : (C : Columns) {a b c d : List ℤ} → a ≡ over (pos 0 ∷ pos 0 ∷ []) C.a → b ≡ over (pos 0 ∷ pos 0 ∷ []) C.b
-    → c ≡ over (pos 0 ∷ pos 0 ∷ []) C.c → d ≡ over (pos 1 ∷ pos 0 ∷ []) C.d → Published (𝟙 ∷ 𝟘 ∷ []) C (columns C.level C.low C.high a b c d)
+pub pairs_published : (C : Columns) {a b c d : List ℤ} → a ≡ pos 0 ∷ pos 0 ∷ [] → b ≡ pos 0 ∷ pos 0 ∷ [] → c ≡ pos 0 ∷ pos 0 ∷ []
+    → d ≡ pos 1 ∷ pos 0 ∷ []
+    → Published (𝟙 ∷ 𝟘 ∷ []) C (columns C.level C.low C.high (a ++ drop 2 C.a) (b ++ drop 2 C.b) (c ++ drop 2 C.c) (d ++ drop 2 C.d))
 unfolding 𝟘 𝟙
 pairs_published C p q r s = record {
-  of_a = p;
-  of_b = q;
-  of_c = r;
-  of_d = s;
+  of_a = ap (λ (l : List ℤ). l ++ drop 2 C.a) p;
+  of_b = ap (λ (l : List ℤ). l ++ drop 2 C.b) q;
+  of_c = ap (λ (l : List ℤ). l ++ drop 2 C.c) r;
+  of_d = ap (λ (l : List ℤ). l ++ drop 2 C.d) s;
   nodes = record { same_level = refl; same_low = refl; same_high = refl };
 }
 
--- the node columns have these nodes written over what they had
-record Over (ns : List Node) (C : Columns) (level low high : List ℕ) : Type 0 where
-  of_level : level ≡ over (map (λ (n : Node). n.level) ns) C.level
-  of_low : low ≡ over (map (λ (n : Node). code n.low) ns) C.low
-  of_high : high ≡ over (map (λ (n : Node). code n.high) ns) C.high
-
-module _ {ns : List Node} {C : Columns} {level low high : List ℕ} (written : Over ns C level low high) where
-  -- one node more
-  written_snoc : (n : Node) (i : ℕ) {lv lo hi : ℕ} → i ≡ length ns → NodeColumns C (i + 1)
-      → lv ≡ n.level → lo ≡ code n.low → hi ≡ code n.high
-      → Over (ns ++ (n ∷ [])) C (set level i lv) (set low i lo) (set high i hi)
-  written_snoc n i e fits p q r = record {
-    of_level = column (λ m. m.level) C.level p written.of_level fits.in_level;
-    of_low = column (λ m. code m.low) C.low q written.of_low fits.in_low;
-    of_high = column (λ m. code m.high) C.high r written.of_high fits.in_high;
-  }
-    where
-      column : (f : Node → ℕ) {x : ℕ} (l : List ℕ) {l' : List ℕ} → x ≡ f n → l' ≡ over (map f ns) l → i + 1 ≤ length l
-          → set l' i x ≡ over (map f (ns ++ (n ∷ []))) l
-      column f {x} l {l'} p is below =
-          set l' i x ≡⟨ ap₂ (λ (m : List ℕ) (y : ℕ). set m i y) is p ⟩
-          set (over (map f ns) l) i (f n) ≡⟨ over_snoc (map f ns) l (f n) i (e ∙ sym (length-map ns f)) (omega arith) ⟩
-          over (map f ns ++ (f n ∷ [])) l ≡⟨ ap (λ (m : List ℕ). over m l) (sym (map-append f ns (n ∷ []))) ⟩
-          over (map f (ns ++ (n ∷ []))) l ∎
+-- three numbers of a qubit's nodes
+pub three_put : (k : ℕ) (l part : List ℕ) {new : List ℕ} → new ≡ part → length part ≡ 3
+    → put_mid (3 * k) (3 * k + 3 - 3 * k) l new ≡ put_from (3 * k) part l
+three_put k l part is long =
+    let three : 3 * k + 3 - 3 * k ≡ length part = omega (arith, long) in
+    rw (three, is, drop-drop (length part) (3 * k) l)
 
 -- the nodes of k qubits, with x for their root, and those of one qubit more
 module _ (lv k x : ℕ) {C C₀ C₁ : Columns} where
-  pub qubit_written : NodesWritten (identity_nodes (suc (suc lv)) k) C C₀ → NodeColumns C (3 * k + 3)
-      → x ≡ code (identity_root k) → QubitSet k lv x C₀ C₁ → NodesWritten (identity_nodes lv (k + 1)) C C₁
+  pub qubit_written : NodesWritten (identity_nodes (suc (suc lv)) k) C C₀ → x ≡ code (identity_root k) → QubitSet k lv x C₀ C₁
+      → NodesWritten (identity_nodes lv (k + 1)) C C₁
   unfolding identity_nodes
-  qubit_written w fits root is =
-      let long : length (identity_nodes (suc (suc lv)) k) ≡ 3 * k = length_identity (suc (suc lv)) k in
-      let w₀ : Over (identity_nodes (suc (suc lv)) k) C C₀.level C₀.low C₀.high = record { of_level = w.of_level; of_low = w.of_low; of_high = w.of_high } in
-      let w₁ = written_snoc w₀ n₁ (3 * k) (sym long) (within (3 * k + 1) (omega arith)) (add-one lv) root refl in
-      let w₂ = written_snoc w₁ n₂ (3 * k + 1) (omega (arith, long, length-append (identity_nodes (suc (suc lv)) k) (n₁ ∷ [])))
-      (within (3 * k + 1 + 1) (omega arith)) (add-one lv) refl root in
-      let w₃ = written_snoc w₂ n₃ (3 * k + 2)
-      (omega (arith, long, length-append (identity_nodes (suc (suc lv)) k) (n₁ ∷ []), length-append (identity_nodes (suc (suc lv)) k ++ (n₁ ∷ [])) (n₂ ∷ [])))
-      (within (3 * k + 2 + 1) (omega arith)) refl (first_child k) (second_child k) in
-      let all : Over (identity_nodes lv (k + 1)) C C₁.level C₁.low C₁.high = rw (add-one k, is.of_level, is.of_low, is.of_high) (simp append_assoc at w₃) in
-      record {
-        of_level = all.of_level;
-        of_low = all.of_low;
-        of_high = all.of_high;
-        values = record {
-          same_a = is.values.same_a ∙ w.values.same_a;
-          same_b = is.values.same_b ∙ w.values.same_b;
-          same_c = is.values.same_c ∙ w.values.same_c;
-          same_d = is.values.same_d ∙ w.values.same_d;
-        };
-      }
+  qubit_written w root is = rw (add-one k) (record {
+    of_level = column (λ m. m.level) C.level ((lv + 1) ∷ (lv + 1) ∷ lv ∷ []) w.of_level is.of_level (simp add-one);
+    of_low = column (λ m. code m.low) C.low (x ∷ 2 ∷ (6 * k + 1) ∷ []) w.of_low is.of_low (rw (root, first_child k));
+    of_high = column (λ m. code m.high) C.high (2 ∷ x ∷ (6 * k + 3) ∷ []) w.of_high is.of_high (rw (root, second_child k));
+    values = record {
+      same_a = is.values.same_a ∙ w.values.same_a;
+      same_b = is.values.same_b ∙ w.values.same_b;
+      same_c = is.values.same_c ∙ w.values.same_c;
+      same_d = is.values.same_d ∙ w.values.same_d;
+    };
+  })
     where
-      n₁ : Node
-      n₁ = branch (suc lv) (identity_root k) (value 1)
+      before : List Node
+      before = identity_nodes (suc (suc lv)) k
 
-      n₂ : Node
-      n₂ = branch (suc lv) (value 1) (identity_root k)
-
-      n₃ : Node
-      n₃ = branch lv (node (3 * k)) (node (3 * k + 1))
+      three : List Node
+      three =
+          branch (suc lv) (identity_root k) (value 1)
+          ∷ branch (suc lv) (value 1) (identity_root k)
+          ∷ branch lv (node (3 * k)) (node (3 * k + 1))
+          ∷ []
 
       first_child : (k : ℕ) → 6 * k + 1 ≡ 2 * (3 * k) + 1
       first_child k = omega arith
@@ -110,21 +89,22 @@ module _ (lv k x : ℕ) {C C₀ C₁ : Columns} where
       second_child : (k : ℕ) → 6 * k + 3 ≡ 2 * (3 * k + 1) + 1
       second_child k = omega arith
 
-      within : (i : ℕ) → i ≤ 3 * k + 3 → NodeColumns C i
-      within i below = record {
-        in_level = omega (arith, fits.in_level);
-        in_low = omega (arith, fits.in_low);
-        in_high = omega (arith, fits.in_high);
-      }
+      column : (f : Node → ℕ) (l part : List ℕ) {l₀ l₁ : List ℕ} → l₀ ≡ over (map f before) l → l₁ ≡ put_from (3 * k) part l₀
+          → part ≡ map f three → l₁ ≡ over (map f (before ++ three)) l
+      column f l part {l₀} {l₁} old new is =
+          l₁ ≡⟨ new ∙ ap₂ (put_from (3 * k)) is old ⟩
+          put_from (3 * k) (map f three) (over (map f before) l) ≡⟨ over_more (map f before) (map f three) l (3 * k) long ⟩
+          over (map f before ++ map f three) l ≡⟨ ap (λ (m : List ℕ). over m l) (sym (map-append f before three)) ⟩
+          over (map f (before ++ three)) l ∎
+        where
+          long : length (map f before) ≡ 3 * k
+          long = length-map before f ∙ length_identity (suc (suc lv)) k
 
 -- a loop has written the nodes of the last k qubits of n, with x for their root
 pub record Writing (n : ℕ) (C₀ C : Columns) (k x : ℕ) : Type 0 where
   pub bound : k ≤ n
   pub root : x ≡ code (identity_root k)
   pub nodes : NodesWritten (identity_nodes (2 * (n - k)) k) C₀ C
-  pub level_long : length C.level ≡ length C₀.level
-  pub low_long : length C.low ≡ length C₀.low
-  pub high_long : length C.high ≡ length C₀.high
 
 module _ {n : ℕ} {C₀ : Columns} where
   pub writing_starts : Writing n C₀ C₀ 0 0
@@ -133,35 +113,22 @@ module _ {n : ℕ} {C₀ : Columns} where
     bound = omega arith;
     root = refl;
     nodes = record { of_level = refl; of_low = refl; of_high = refl; values = record { same_a = refl; same_b = refl; same_c = refl; same_d = refl } };
-    level_long = refl;
-    low_long = refl;
-    high_long = refl;
   }
 
-  module _ {C : Columns} {k x : ℕ} (w : Writing n C₀ C k x) where
-    pub writing_goes : {C' : Columns} → k < n → NodeColumns C₀ (3 * n) → QubitSet k (2 * (n - 1 - k)) x C C' → Writing n C₀ C' (k + 1) (6 * k + 5)
-    unfolding identity_root
-    writing_goes less fits is = record {
-      bound = omega arith;
-      root = rw (add-one k) (third k);
-      nodes = rw (← next_level) (qubit_written (2 * (n - 1 - k)) k x (rw (sym this_level) w.nodes) within w.root is);
-      level_long = ap length is.of_level ∙ simp length-set w.level_long;
-      low_long = ap length is.of_low ∙ simp length-set w.low_long;
-      high_long = ap length is.of_high ∙ simp length-set w.high_long;
-    }
-      where
-        third : (k : ℕ) → 6 * k + 5 ≡ 2 * (3 * k + 2) + 1
-        third k = omega arith
+  pub writing_goes : {C C' : Columns} {k x : ℕ} → Writing n C₀ C k x → k < n → QubitSet k (2 * (n - 1 - k)) x C C'
+      → Writing n C₀ C' (k + 1) (6 * k + 5)
+  unfolding identity_root
+  writing_goes {k = k} {x = x} w less is = record {
+    bound = omega arith;
+    root = rw (add-one k) (third k);
+    nodes = rw (← next_level) (qubit_written (2 * (n - 1 - k)) k x (rw (sym this_level) w.nodes) w.root is);
+  }
+    where
+      third : (k : ℕ) → 6 * k + 5 ≡ 2 * (3 * k + 2) + 1
+      third k = omega arith
 
-        this_level : 2 * (n - k) ≡ suc (suc (2 * (n - 1 - k)))
-        this_level = omega arith
+      this_level : 2 * (n - k) ≡ suc (suc (2 * (n - 1 - k)))
+      this_level = omega arith
 
-        next_level : 2 * (n - 1 - k) ≡ 2 * (n - (k + 1))
-        next_level = omega arith
-
-        within : NodeColumns C₀ (3 * k + 3)
-        within = record {
-          in_level = omega (arith, fits.in_level);
-          in_low = omega (arith, fits.in_low);
-          in_high = omega (arith, fits.in_high);
-        }
+      next_level : 2 * (n - 1 - k) ≡ 2 * (n - (k + 1))
+      next_level = omega arith

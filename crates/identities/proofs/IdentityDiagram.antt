@@ -167,7 +167,8 @@ module _ (level n : ℕ) where
     qubit_reduced : reduced_identity level (suc n) ≡ rooted (outer (identity_nodes level (suc n))) (node (3 * n + 2))
     unfolding identity_nodes
     qubit_reduced =
-        reduce_step same_entry (suc (levels n)) level (entries identity) empty (outer one) (outer two) (node (3 * n)) (node (3 * n + 1)) low_row high_row
+        reduce_step same_entry (suc (levels n)) level (entries identity) empty (outer one) (outer two)
+        (node (3 * n)) (node (3 * n + 1)) low_row high_row
         ∙ make_fresh third (outer two) children_differ (below_absent (suc level) third two (omega arith) from_two)
         ∙ ap (λ (k : ℕ). rooted (outer (two ++ (third ∷ []))) (node k)) length_two
         ∙ ap (λ (ns : List Node). rooted (outer ns) (node (3 * n + 2))) (snoc_three below first second third)

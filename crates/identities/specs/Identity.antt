@@ -1,5 +1,5 @@
 -- The identity's reduced diagram, slot by slot. Definitions only; that it is `diagram n identity` is in proofs/Identities.antt.
-use Rattle.std.specs.Prelude.{◌≡◌, List, [], ◌∷◌, ◌++◌, ℕ, zero, suc, ◌+◌, ◌*◌, set}
+use Rattle.std.specs.Prelude.{◌≡◌, List, [], ◌∷◌, ◌++◌, ℕ, zero, suc, ◌+◌, ◌*◌, length, take, drop}
 use Rattle.algebra.specs.declared.Entry.{Entry}
 use Rattle.algebra.specs.Entry.{𝟘, 𝟙}
 use Rattle.diagrams.specs.Diagram.{Ref, value, node, Node, branch, Store, holding}
@@ -22,9 +22,13 @@ identity_nodes level (suc n) =
 abbrev pub identity_store : ℕ → Store Entry
 identity_store n = holding (identity_nodes 0 n) (𝟙 ∷ 𝟘 ∷ [])
 
--- the slots of the three nodes of a qubit that asks at the levels lv and lv + 1, after k qubits with x for their root
-pub record QubitSet (k lv x : ℕ) (C C' : Columns) : Type 0 where
-  pub of_level : C'.level ≡ set (set (set C.level (3 * k) (lv + 1)) (3 * k + 1) (lv + 1)) (3 * k + 2) lv
-  pub of_low : C'.low ≡ set (set (set C.low (3 * k) x) (3 * k + 1) 2) (3 * k + 2) (6 * k + 1)
-  pub of_high : C'.high ≡ set (set (set C.high (3 * k) 2) (3 * k + 1) x) (3 * k + 2) (6 * k + 3)
+-- a column with these numbers in its slots from one on, and the others as they were
+abbrev pub put_from : ℕ → List ℕ → List ℕ → List ℕ
+put_from from part l = take from l ++ (part ++ drop (from + length part) l)
+
+-- the slots of the three nodes of a qubit that asks at this level and the next, after k qubits with `below` for their root
+pub record QubitSet (k level below : ℕ) (C C' : Columns) : Type 0 where
+  pub of_level : C'.level ≡ put_from (3 * k) ((level + 1) ∷ (level + 1) ∷ level ∷ []) C.level
+  pub of_low : C'.low ≡ put_from (3 * k) (below ∷ 2 ∷ (6 * k + 1) ∷ []) C.low
+  pub of_high : C'.high ≡ put_from (3 * k) (2 ∷ below ∷ (6 * k + 3) ∷ []) C.high
   pub values : SameValues C C'

@@ -3,33 +3,39 @@
 
 ghost use Rattle.std.specs.Prelude.{◌≡◌, ◌≤◌, length};
 ghost use Rattle.reports.specs.Line.{line, over_front};
-ghost use Rattle.inputs.specs.Input.{bad_length, input_report};
+ghost use Rattle.inputs.specs.Input.{bad_length, input_report, split_report};
 
 use circuits::{Fault, Reader};
-use miters::{Refusal, Report};
+use miters::{Part, Refusal, Report};
 
-// The refusal that the length of list 1 gives.
-fn refuse_length(fault: Fault) -> Report
+// A refusal of the length of list 1, which is at its first byte wherever it was met.
+fn bad_length(fault: Fault) -> Refusal
     ensures { result ≡ bad_length fault }
 {
-    miters::refused(Refusal::Byte {
-        list: 0,
+    Refusal::Byte {
+        list: Part::Length,
         why: circuits::Refusal { fault, offset: 0 },
-    })
+    }
 }
 
-// The report on an input: list 1 after its length, and list 2 to the end.
+// An input's two lists: list 1 after its length, and list 2 to the end.
+fn split(bytes: &[u8]) -> Result<(&[u8], &[u8]), Refusal>
+    ensures { input_report bytes.now ≡ split_report result }
+{
+    let mut reader = Reader::new(bytes, 0);
+    let length = reader.number().map_err(|why| bad_length(why.fault))? as usize;
+    bytes[reader.at..]
+        .split_at_checked(length)
+        .ok_or(bad_length(Fault::EndsEarly))
+}
+
+// The report on an input.
 pub fn judge_input(bytes: &[u8]) -> Report
     ensures { result ≡ input_report bytes.now }
 {
-    let mut reader = Reader::new(bytes, 0);
-    let length = match reader.number() {
-        Ok(length) => length as usize,
-        Err(why) => return refuse_length(why.fault),
-    };
-    match bytes[reader.at..].split_at_checked(length) {
-        Some((first, second)) => pairs::judge_lists(first, second),
-        None => refuse_length(Fault::EndsEarly),
+    match split(bytes) {
+        Ok((first, second)) => pairs::judge_lists(first, second),
+        Err(why) => Report::from(why),
     }
 }
 

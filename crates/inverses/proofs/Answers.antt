@@ -8,8 +8,7 @@ use native.Mathlib.Omega.{arith}
 use borrow.Author.Tests.{le-leb, lt-leb}
 use lib.ListN.{length, drop, length-append}
 use lib.Seq.{sets}
-use Rattle.std.specs.Prelude.{Result, Ok, Err, MatchResult}
-use Rattle.std.specs.Result.{IsErrAnd}
+use Rattle.std.specs.Prelude.{Ok, Err}
 use Rattle.gates.specs.Gate.{Gate}
 use Rattle.circuits.specs.declared.Refusal.{Refusal as ListRefusal}
 use Rattle.circuits.specs.Refusals.{base_limits}
@@ -22,6 +21,7 @@ use Rattle.stores.specs.Columns.{over}
 use Rattle.miters.specs.declared.Refusal.{Refusal}
 use Rattle.miters.specs.declared.CallFault.TheVariants.{ShortBuffer}
 use Rattle.miters.specs.declared.Refusal.TheVariants.{Call}
+use Rattle.miters.specs.declared.Part.TheVariants.{First}
 use Rattle.miters.specs.Report.{at_byte}
 use Rattle.lists.specs.Answers.{Listed}
 use Rattle.inverses.specs.Inverse.{undone, inverse_bytes, Filled, inverted_by, inverted}
@@ -47,7 +47,7 @@ inverse_length s {c} e =
 
 module _ (s buffer : List ℕ) where
   pub inverted_unread : {why : ListRefusal} → decoded base_limits s ≡ unread why
-      → inverted s buffer ≡ record { answer = Err (at_byte 1 why); buffer = buffer }
+      → inverted s buffer ≡ record { answer = Err (at_byte First why); buffer = buffer }
   unfolding inverted
   inverted_unread e = ap (inverted_by buffer) e
 
@@ -128,16 +128,12 @@ module _ (s buffer : List ℕ) {n m first : ℕ} (l : Listed (decoded base_limit
         let many = ap (λ (k : ℕ). length (number_bytes k)) l.gates_are in
         let start : first ≡ last = sym l.first_is ∙ omega (arith, head, qubits_of.place, count.place, many) in
         let gates_of_it : Put (gates_bytes (undone c.gates)) last two three (last + length (gates_bytes (undone c.gates))) =
-        record { place = refl; stored = gates ∙ ap₂ (λ (k : ℕ) (gs : List Gate). sets two k (gates_bytes (undone gs))) start (ap gates_of l.was_read) } in
+        record {
+          place = refl;
+          stored = gates ∙ ap₂ (λ (k : ℕ) (gs : List Gate). sets two k (gates_bytes (undone gs))) start (ap gates_of l.was_read);
+        } in
         let all = put_then qubits_of (put_then count_of gates_of_it) in
         let long = inverse_length s l.was_read in (
           sym (ap (λ (f : Filled). f.answer) answer),
           all.stored ∙ sets_over (inverse_bytes c) buffer (omega (arith, long)) ∙ sym (ap (λ (f : Filled). f.buffer) answer),
         )
-
--- ---- a refusal that was taken for another
-
-pub map_refused : {T E D : Type 0} (answer : Result T E) (mapped : Result T D) (Post : E → D → Type 0) (is : D)
-    → MatchResult answer (λ x. mapped ≡ Ok x) (λ e. IsErrAnd mapped (Post e)) → mapped ≡ Err is → (why : E) × (answer ≡ Err why) × Post why is
-map_refused (Ok x) mapped Post is cases e = let both : Ok x ≡ Err is = sym cases ∙ e in cc
-map_refused (Err why) mapped Post is cases e = (why, refl, subst (λ r. IsErrAnd r (Post why)) e cases)

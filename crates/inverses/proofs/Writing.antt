@@ -6,7 +6,7 @@ use Prim.Native.Nat.{ℕ, ◌+◌, ◌-◌, ◌<◌, ◌≤◌}
 use native.Mathlib.Omega.{arith}
 use lib.ListN.{length, length-append}
 use lib.Seq.{sets, length-sets}
-use Rattle.std.specs.Prelude.{Result, Ok, Err}
+use Rattle.std.specs.Prelude.{Result, Ok}
 use Rattle.std.specs.Borrow.{Bor}
 use Rattle.gates.specs.Gate.{Gate, inverse}
 use Rattle.circuits.specs.declared.Refusal.{Refusal}
@@ -18,7 +18,6 @@ use Rattle.circuits.specs.Remaining.{Remaining}
 use Rattle.circuits.specs.Answers.{reader_at, gate_data, Says}
 use Rattle.circuits.proofs.Remaining.{remaining_next, decoded_accepted}
 use Rattle.circuits.proofs.Within.{decoded_within, gate_fits, control_small, target_small, second_small}
-use Rattle.encodings.specs.declared.Writer.{Writer}
 use Rattle.encodings.specs.Encoding.{number_bytes, gate_bytes, gates_bytes}
 use Rattle.encodings.proofs.Lengths.{gates_long, decoded_ends}
 use Rattle.encodings.proofs.Puts.{sets_before}
@@ -64,17 +63,16 @@ said s {n} {m} {first} l =
 -- ---- the loop
 
 -- the gates of `rest` are still to be undone; written from `first` on, their inverses make the whole
-pub record Writing (s : List ℕ) (n m first : ℕ) (before writer : Writer) (reader : Reader) (turn : ℕ) : Type 0 where
+pub record Writing (s : List ℕ) (n m first : ℕ) (before now : List ℕ) (reader : Reader) (turn : ℕ) : Type 0 where
   pub rest : List Gate
   pub left : turn + length rest ≡ m
   pub same_list : reader.bytes.now ≡ s
   pub here : Remaining n s reader.at rest
   pub room : first + length (gates_bytes rest) ≤ length s
-  pub same_buffer : writer.buffer.ghost_name ≡ before.buffer.ghost_name
-  pub long : length writer.buffer.now ≡ length before.buffer.now
-  pub to_write : sets writer.buffer.now first (gates_bytes (undone rest)) ≡ sets before.buffer.now first (gates_bytes (undone (gates_said s)))
+  pub long : length now ≡ length before
+  pub to_write : sets now first (gates_bytes (undone rest)) ≡ sets before first (gates_bytes (undone (gates_said s)))
 
-pub writing_none : {n m first : ℕ} {list : Bor (List ℕ)} {reader : Reader} (before : Writer) → Said list.now n m first → reader ≡ reader_at list first
+pub writing_none : {n m first : ℕ} {list : Bor (List ℕ)} {reader : Reader} (before : List ℕ) → Said list.now n m first → reader ≡ reader_at list first
     → Writing list.now n m first before before reader 0
 writing_none {n} {m} {first} {list} before head is = record {
   rest = gates_said list.now;
@@ -82,20 +80,19 @@ writing_none {n} {m} {first} {list} before head is = record {
   same_list = ap (λ (r : Reader). r.bytes.now) is;
   here = rw is head.here;
   room = omega (arith, head.long);
-  same_buffer = refl;
   long = refl;
   to_write = refl;
 }
 
-module _ {s : List ℕ} {n m first : ℕ} {before writer : Writer} {reader : Reader} {turn : ℕ} (w : Writing s n m first before writer reader turn) where
+module _ {s : List ℕ} {n m first : ℕ} {before now : List ℕ} {reader : Reader} {turn : ℕ} (w : Writing s n m first before now reader turn) where
   -- ---- none is left
 
   all_by : (rest : List Gate) → w.rest ≡ rest → m ≤ turn
-      → writer.buffer.now ≡ sets before.buffer.now first (gates_bytes (undone (gates_said s)))
-  all_by [] e none = ap (λ (gs : List Gate). sets writer.buffer.now first (gates_bytes (undone gs))) (sym e) ∙ w.to_write
+      → now ≡ sets before first (gates_bytes (undone (gates_said s)))
+  all_by [] e none = ap (λ (gs : List Gate). sets now first (gates_bytes (undone gs))) (sym e) ∙ w.to_write
   all_by (g ∷ rest) e none = absurd (omega (arith, w.left, ap length e))
 
-  pub writing_all : m ≤ turn → writer.buffer.now ≡ sets before.buffer.now first (gates_bytes (undone (gates_said s)))
+  pub writing_all : m ≤ turn → now ≡ sets before first (gates_bytes (undone (gates_said s)))
   writing_all = all_by w.rest refl
 
   -- ---- one is read
@@ -121,11 +118,12 @@ module _ {s : List ℕ} {n m first : ℕ} {before writer : Writer} {reader : Rea
 
     said_so : Says gate_data (read of_turn.g of_turn.next) reader new answer
     said_so =
-        let was : gate n reader.bytes.now reader.at ≡ read of_turn.g of_turn.next = ap (λ (l : List ℕ). gate n l reader.at) w.same_list ∙ of_turn.was_read in
+        let was : gate n reader.bytes.now reader.at ≡ read of_turn.g of_turn.next =
+        ap (λ (l : List ℕ). gate n l reader.at) w.same_list ∙ of_turn.was_read in
         subst (λ (r : Reading Gate). Says gate_data r reader new answer) was says
 
-    pub never_refused : (why : Refusal) → answer ≡ Err why → ⊥
-    never_refused why e = let both : Ok (gate_data of_turn.g) ≡ Err why = sym said_so.0 ∙ e in cc
+    pub was_read_so : answer ≡ Ok (gate_data of_turn.g)
+    was_read_so = said_so.0
 
     module _ (what : GateData) (is : answer ≡ Ok what) where
       same_gate : what ≡ gate_data of_turn.g
@@ -162,31 +160,28 @@ module _ {s : List ℕ} {n m first : ℕ} {before writer : Writer} {reader : Rea
             );
           }
 
-      pub writing_more : (now : Writer) → now.buffer.ghost_name ≡ writer.buffer.ghost_name
-          → now.buffer.now ≡ sets writer.buffer.now (first + (length s - new.at)) (undo_bytes what)
-          → Writing s n m first before now new (turn + 1)
-      writing_more now same stored =
+      pub writing_more : (then : List ℕ) → then ≡ sets now (first + (length s - new.at)) (undo_bytes what)
+          → Writing s n m first before then new (turn + 1)
+      writing_more then stored =
           let a = after in
           let t = of_turn in
           let bytes = gate_bytes (inverse t.g) in
           let others = gates_bytes (undone t.others) in
           let place : first + (length s - new.at) ≡ first + length others = omega (arith, a.end, undone_long t.others) in
-          let put : now.buffer.now ≡ sets writer.buffer.now (first + length others) bytes =
-          stored ∙ ap₂ (λ (k : ℕ) (l : List ℕ). sets writer.buffer.now k l) place a.bytes in
+          let put : then ≡ sets now (first + length others) bytes = stored ∙ ap₂ (λ (k : ℕ) (l : List ℕ). sets now k l) place a.bytes in
           record {
             rest = t.others;
             left = omega (arith, w.left, ap length t.split);
             same_list = ap (λ (r : Reader). r.bytes.now) said_so.1 ∙ w.same_list;
             here = subst (λ (k : ℕ). Remaining n s k t.others) (sym next_at) t.here;
             room = omega (arith, a.room);
-            same_buffer = same ∙ w.same_buffer;
-            long = ap length put ∙ length-sets writer.buffer.now (first + length others) bytes ∙ w.long;
+            long = ap length put ∙ length-sets now (first + length others) bytes ∙ w.long;
             to_write =
-                sets now.buffer.now first others ≡⟨ ap (λ (l : List ℕ). sets l first others) put ⟩
-                sets (sets writer.buffer.now (first + length others) bytes) first others ≡⟨ sets_before writer.buffer.now first others bytes ⟩
-                sets writer.buffer.now first (others ++ bytes) ≡⟨ ap (sets writer.buffer.now first) (sym (undone_bytes t.g t.others)) ⟩
-                sets writer.buffer.now first (gates_bytes (undone (t.g ∷ t.others)))
-                ≡⟨ ap (λ (gs : List Gate). sets writer.buffer.now first (gates_bytes (undone gs))) (sym t.split) ⟩
-                sets writer.buffer.now first (gates_bytes (undone w.rest)) ≡⟨ w.to_write ⟩
-                sets before.buffer.now first (gates_bytes (undone (gates_said s))) ∎;
+                sets then first others ≡⟨ ap (λ (l : List ℕ). sets l first others) put ⟩
+                sets (sets now (first + length others) bytes) first others ≡⟨ sets_before now first others bytes ⟩
+                sets now first (others ++ bytes) ≡⟨ ap (sets now first) (sym (undone_bytes t.g t.others)) ⟩
+                sets now first (gates_bytes (undone (t.g ∷ t.others)))
+                ≡⟨ ap (λ (gs : List Gate). sets now first (gates_bytes (undone gs))) (sym t.split) ⟩
+                sets now first (gates_bytes (undone w.rest)) ≡⟨ w.to_write ⟩
+                sets before first (gates_bytes (undone (gates_said s))) ∎;
           }

@@ -8,6 +8,7 @@ use Rattle.stores.specs.Columns.{over}
 use Rattle.miters.specs.declared.CallFault.TheVariants.{ShortBuffer}
 use Rattle.miters.specs.declared.Refusal.{Refusal}
 use Rattle.miters.specs.declared.Refusal.TheVariants.{Call}
+use Rattle.miters.specs.declared.Part.TheVariants.{First}
 use Rattle.miters.specs.Report.{at_byte}
 
 -- ---- the inverse
@@ -38,7 +39,7 @@ put bytes buffer =
 -- "Refusals 3 to 10 name list 1 here", and so does 17; "Any refusal leaves the buffer untouched."
 abbrev pub inverted_by : List ℕ → Reading Circuit → Filled
 inverted_by buffer (read c next) = put (inverse_bytes c) buffer
-inverted_by buffer (unread why) = record { answer = Err (at_byte 1 why); buffer = buffer }
+inverted_by buffer (unread why) = record { answer = Err (at_byte First why); buffer = buffer }
 
 -- the answer on a list, with a buffer of these contents
 unfoldable pub inverted : List ℕ → List ℕ → Filled

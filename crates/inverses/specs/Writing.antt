@@ -1,10 +1,10 @@
 -- What the functions below the writer of the inverse ask and write. Definitions only.
-use Rattle.std.specs.Prelude.{cond, List, [], ◌++◌, ℕ, ◌<◌, eqb}
+use Rattle.std.specs.Prelude.{List, [], ◌++◌, ℕ, ◌<◌}
 use Rattle.gates.specs.Gate.{Gate}
 use Rattle.gates.specs.Code.{code_number}
 use Rattle.gates.specs.Rule.{code_rule}
 use Rattle.gates.specs.declared.Operands.{Operands}
-use Rattle.gates.specs.declared.Operands.TheVariants.{Qubit, Controlled, Masked}
+use Rattle.gates.specs.declared.Operands.TheVariants.{Qubit, Controlled, Masked, Exchanging}
 use Rattle.circuits.specs.declared.Gate.{Gate as GateData}
 use Rattle.circuits.specs.Refusals.{base_limits}
 use Rattle.circuits.specs.Reading.{Reading, read, refused, Circuit, decoded}
@@ -19,7 +19,8 @@ Small g = (g.control < 2097152) × (g.target < 2097152) × (g.second < 2097152)
 abbrev pub data_bytes : Operands → GateData → List ℕ
 data_bytes Qubit g = number_bytes g.target
 data_bytes Controlled g = number_bytes g.control ++ number_bytes g.target
-data_bytes (Masked least targets) g = (number_bytes g.control ++ number_bytes g.target) ++ cond (eqb targets 2) (number_bytes g.second) []
+data_bytes (Masked least) g = number_bytes g.control ++ number_bytes g.target
+data_bytes (Exchanging least) g = number_bytes g.control ++ (number_bytes g.target ++ number_bytes g.second)
 
 -- the bytes of a gate's inverse, by the data of the gate's code, its control or mask and its targets
 abbrev pub undo_bytes : GateData → List ℕ

@@ -15,27 +15,24 @@ use circuits::{Gate, Reader};
 use encodings::Writer;
 use gates::Operands;
 use lists::List;
-use miters::{CallFault, Refusal};
+use miters::{CallFault, Part, Refusal};
 
 // What follows a gate's code.
 fn write_operands(writer: &mut Writer<'_>, operands: Operands, gate: Gate)
     requires small { Small gate }
     requires in_bounds { writer.old.at + length (data_bytes operands gate) ≤ length writer.old.buffer.now }
-    ensures same_buffer { writer.new.buffer.ghost_name ≡ writer.old.buffer.ghost_name }
-    ensures wrote { Wrote (data_bytes operands gate) writer.old writer.new }
+    ensures { Wrote (data_bytes operands gate) writer.old writer.new }
 {
     match operands {
         Operands::Qubit => writer.number(gate.target),
-        Operands::Controlled => {
+        Operands::Controlled | Operands::Masked { .. } => {
             writer.number(gate.control);
             writer.number(gate.target);
         }
-        Operands::Masked { least: _, targets } => {
+        Operands::Exchanging { .. } => {
             writer.number(gate.control);
             writer.number(gate.target);
-            if targets == 2 {
-                writer.number(gate.second);
-            }
+            writer.number(gate.second);
         }
     }
 }
@@ -44,29 +41,25 @@ fn write_operands(writer: &mut Writer<'_>, operands: Operands, gate: Gate)
 fn write_gate(writer: &mut Writer<'_>, gate: Gate)
     requires small { Small gate }
     requires in_bounds { writer.old.at + length (undo_bytes gate) ≤ length writer.old.buffer.now }
-    ensures same_buffer { writer.new.buffer.ghost_name ≡ writer.old.buffer.ghost_name }
-    ensures wrote { Wrote (undo_bytes gate) writer.old writer.new }
+    ensures { Wrote (undo_bytes gate) writer.old writer.new }
 {
     let rule = gate.code.rule();
-    writer.number(rule.inverse as u32);
+    writer.number(u32::from(rule.inverse));
     write_operands(writer, rule.operands, gate);
 }
 
 // The inverses of a list's gates, from the place of its first gate on: the gate that stands so far before the list's end is undone so far
 // after that place.
-fn write_gates(list: &[u8], head: List, writer: &mut Writer<'_>)
+fn write_gates(list: &[u8], head: List, buffer: &mut [u8])
     requires listed { Listed (decoded base_limits list.now) head.qubits head.gates head.first }
-    requires in_bounds { length list.now ≤ length writer.old.buffer.now }
-    ensures same_buffer { writer.new.buffer.ghost_name ≡ writer.old.buffer.ghost_name }
-    ensures stored { writer.new.buffer.now ≡ sets writer.old.buffer.now head.first (gates_bytes (undone (gates_said list.now))) }
+    requires in_bounds { length list.now ≤ length buffer.old }
+    ensures { buffer.new ≡ sets buffer.old head.first (gates_bytes (undone (gates_said list.now))) }
 {
     let mut reader = Reader::new(list, head.first);
     for _ in 0..head.gates {
-        let Ok(gate) = reader.gate(head.qubits) else {
-            unreachable!()
-        };
-        writer.at = head.first + (list.len() - reader.at);
-        write_gate(writer, gate);
+        let gate = reader.gate(head.qubits).unwrap();
+        let at = head.first + (list.len() - reader.at);
+        write_gate(&mut Writer { buffer, at }, gate);
     }
 }
 
@@ -76,13 +69,16 @@ pub fn write_inverse(list: &[u8], buffer: &mut [u8]) -> Result<usize, Refusal>
     ensures contents { buffer.new ≡ (inverted list.now buffer.old).buffer }
 {
     let read = lists::check_list(list, circuits::base_limits());
-    let head = read.map_err(|why| Refusal::Byte { list: 1, why })?;
+    let head = read.map_err(|why| Refusal::Byte {
+        list: Part::First,
+        why,
+    })?;
     if buffer.len() < list.len() {
         return Err(Refusal::Call(CallFault::ShortBuffer));
     }
     let mut writer = Writer { buffer, at: 0 };
     writer.number(head.qubits);
     writer.number(head.gates);
-    write_gates(list, head, &mut writer);
+    write_gates(list, head, writer.buffer);
     Ok(list.len())
 }

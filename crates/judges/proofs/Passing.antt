@@ -5,6 +5,7 @@ use mathlib.Core.List.{List}
 use Prim.Native.Nat.{ℕ}
 use lib.ListN.{length}
 use Rattle.std.specs.Prelude.{Ok, Err}
+use Rattle.std.specs.Borrow.{Bor}
 use Rattle.circuits.specs.Refusals.{base_limits}
 use Rattle.circuits.specs.Reading.{Circuit}
 use Rattle.circuits.specs.Within.{Within}
@@ -20,26 +21,34 @@ use Rattle.miters.specs.Run.{ended, outcome, judged}
 use Rattle.plans.specs.declared.Sizes.{Sizes}
 use Rattle.plans.specs.declared.Scratch.{Scratch as LentScratch}
 use Rattle.steps.specs.Stepping.{Scratch, lent_with}
-use Rattle.choices.specs.declared.Offsets.{Offsets}
+use Rattle.choices.specs.declared.Course.{Course}
 use Rattle.runs.specs.Running.{Task}
 use Rattle.checks.specs.declared.Lengths.{Lengths}
-use Rattle.checks.specs.declared.Pair.{Pair}
-use Rattle.checks.specs.Checks.{lengths, Checks, refuses, passes, checks, checked}
+use Rattle.checks.specs.Checks.{lengths, Checks, refuses, passes, checks, course_of, checked}
 use Rattle.judges.specs.Answer.{lent, answer_by, answer}
-use Rattle.judges.specs.Calls.{Passed, AtMost, leaving}
+use Rattle.judges.specs.Calls.{Passed, answer_along, AtMost, leaving}
 use Rattle.checks.specs.Table.{Checking, all_hold}
 use Rattle.checks.proofs.Checks.{checks_checking}
 use Rattle.checks.proofs.Rules.{both_hold, first_long, second_long}
 
 -- what the run is given, and that the answer is its outcome
-pub record Running (u v schedule : List ℕ) (n : ℕ) (offsets : Offsets) (sizes : Sizes) (first second : Columns)
-    (lent_scratch : LentScratch) : Type 0 where
-  pub task : Task u v schedule n offsets sizes first second lent_scratch
+pub record Running (course : Course) (sizes : Sizes) (first second : Columns) (lent_scratch : LentScratch) : Type 0 where
+  pub task : Task course sizes first second lent_scratch
   pub answer_is : let lent = lent_with sizes task.N task.L in
-      answer u v schedule sizes.width first second ≡ outcome lent n (ended lent n (steps schedule task.us task.vs))
+      answer_along course sizes.width first second
+      ≡ outcome lent course.n (ended lent course.n (steps course.schedule.now task.us task.vs))
 
-module _ (u v schedule : List ℕ) (sizes : Sizes) (first second : Columns) (offsets : Offsets) (lent_scratch : LentScratch)
+module _ (U V S : Bor (List ℕ)) (sizes : Sizes) (first second : Columns) (lent_scratch : LentScratch)
     (scratch : Scratch (length first.level) (length first.a) sizes lent_scratch) where
+  abbrev u : List ℕ
+  u = U.now
+
+  abbrev v : List ℕ
+  v = V.now
+
+  abbrev schedule : List ℕ
+  schedule = S.now
+
   answer_judged : {c d : Circuit} → checks u v schedule sizes.width (lengths first) (lengths second) ≡ passes c d
       → answer u v schedule sizes.width first second
       ≡ outcome (lent sizes.width first) c.qubits (ended (lent sizes.width first) c.qubits (steps schedule c.gates d.gates))
@@ -48,7 +57,7 @@ module _ (u v schedule : List ℕ) (sizes : Sizes) (first second : Columns) (off
 
   read_running : {c d : Circuit} → checks u v schedule sizes.width (lengths first) (lengths second) ≡ passes c d
       → Checking u v schedule sizes.width (lengths first) (lengths second) (passes c d)
-      → Running u v schedule c.qubits (record { first = c.first; second = d.first }) sizes first second lent_scratch
+      → Running (course_of U V S c d) sizes first second lent_scratch
   read_running {c} {d} come (all_hold both one_count fitting) = record {
     task = record {
       us = c.gates;
@@ -68,29 +77,40 @@ module _ (u v schedule : List ℕ) (sizes : Sizes) (first second : Columns) (off
     answer_is = answer_judged come;
   }
 
-  checked_running : (n : ℕ) (x : Checks) → checks u v schedule sizes.width (lengths first) (lengths second) ≡ x
-      → checked x ≡ Ok (record { n = n; offsets = offsets })
-      → Running u v schedule n offsets sizes first second lent_scratch
-  checked_running n (refuses why) come e = cc
-  checked_running n (passes c d) come e =
+  checked_running : {course : Course} (x : Checks) → checks u v schedule sizes.width (lengths first) (lengths second) ≡ x
+      → checked U V S x ≡ Ok course → Running course sizes first second lent_scratch
+  checked_running (refuses why) come e = cc
+  checked_running {course} (passes c d) come e =
       let table = subst (Checking u v schedule sizes.width (lengths first) (lengths second)) come
       (checks_checking u v schedule sizes.width (lengths first) (lengths second)) in
-      let found : Pair = record { n = c.qubits; offsets = record { first = c.first; second = d.first } } in
-      let same : found ≡ record { n = n; offsets = offsets } = cc in
-      subst (λ (p : Pair). Running u v schedule p.n p.offsets sizes first second lent_scratch) same
-      (read_running come table)
+      let same : course_of U V S c d ≡ course = cc in
+      subst (λ (x : Course). Running x sizes first second lent_scratch) same (read_running come table)
 
-  pub passed_running : (n : ℕ) → Passed u v schedule sizes.width first second n offsets
-      → Running u v schedule n offsets sizes first second lent_scratch
-  passed_running n e = checked_running n (checks u v schedule sizes.width (lengths first) (lengths second)) refl e
+pub passed_running : {course : Course} {sizes : Sizes} {first second : Columns} {lent_scratch : LentScratch}
+    → Passed course sizes.width first second → Scratch (length first.level) (length first.a) sizes lent_scratch
+    → Running course sizes first second lent_scratch
+passed_running e scratch = checked_running _ _ _ _ _ _ _ scratch _ refl e
 
-pub passed_task : {u v schedule : List ℕ} {n : ℕ} {offsets : Offsets} {sizes : Sizes} {first second : Columns}
-    {lent_scratch : LentScratch} → Passed u v schedule sizes.width first second n offsets
-    → Scratch (length first.level) (length first.a) sizes lent_scratch
-    → Task u v schedule n offsets sizes first second lent_scratch
-passed_task e scratch = (passed_running _ _ _ _ _ _ _ _ scratch _ e).task
+pub passed_task : {course : Course} {sizes : Sizes} {first second : Columns} {lent_scratch : LentScratch}
+    → Passed course sizes.width first second → Scratch (length first.level) (length first.a) sizes lent_scratch
+    → Task course sizes first second lent_scratch
+passed_task e scratch = (passed_running e scratch).task
 
 -- ---- before the run
+
+-- a course that the checks answer passed them
+module _ (U V S : Bor (List ℕ)) (w : ℕ) (first second : Columns) (course : Course) where
+  abbrev pub passing : Bor (List ℕ) → Bor (List ℕ) → Bor (List ℕ) → Type 0
+  passing u v s = checked u v s (checks u.now v.now s.now w (lengths first) (lengths second)) ≡ Ok course
+
+  passed_by : (x : Checks) → checked U V S x ≡ Ok course → passing U V S → Passed course w first second
+  passed_by (refuses why) f e = cc
+  passed_by (passes c d) f e =
+      let same : course_of U V S c d ≡ course = cc in
+      subst (λ (x : Course). passing x.lists.first.bytes x.lists.second.bytes x.schedule) same e
+
+  pub passed : passing U V S → Passed course w first second
+  passed e = passed_by (checks U.now V.now S.now w (lengths first) (lengths second)) e e
 
 -- the stores of a pair that passed are no longer than the rules allow
 module _ (u v schedule : List ℕ) (w : ℕ) (first : Columns) (second : Lengths) where
@@ -99,24 +119,28 @@ module _ (u v schedule : List ℕ) (w : ℕ) (first : Columns) (second : Lengths
       let ruled = (both_hold (lengths first) second both.lent_well.rules).of_first in
       record { nodes = ruled.few_nodes; values = ruled.few_values }
 
-  at_most_by : {n : ℕ} {offsets : Offsets} (x : Checks) → Checking u v schedule w (lengths first) second x
-      → checked x ≡ Ok (record { n = n; offsets = offsets })
-      → AtMost 65536 first
-  at_most_by (refuses why) line e = cc
-  at_most_by (passes c d) line e = pass_at_most line
+  at_most_by : (U V S : Bor (List ℕ)) {course : Course} (x : Checks) → Checking u v schedule w (lengths first) second x
+      → checked U V S x ≡ Ok course → AtMost 65536 first
+  at_most_by U V S (refuses why) line e = cc
+  at_most_by U V S (passes c d) line e = pass_at_most line
 
-  pub passed_at_most : {n : ℕ} {offsets : Offsets}
-      → checked (checks u v schedule w (lengths first) second) ≡ Ok (record { n = n; offsets = offsets }) → AtMost 65536 first
-  passed_at_most e = at_most_by (checks u v schedule w (lengths first) second) (checks_checking u v schedule w (lengths first) second) e
+pub passed_at_most : (course : Course) (w : ℕ) (first second : Columns) → Passed course w first second → AtMost 65536 first
+passed_at_most course w first second e =
+    let u = course.lists.first.bytes in
+    let v = course.lists.second.bytes in
+    let schedule = course.schedule in
+    at_most_by u.now v.now schedule.now w first (lengths second) u v schedule (checks u.now v.now schedule.now w (lengths first) (lengths second))
+    (checks_checking u.now v.now schedule.now w (lengths first) (lengths second)) e
 
 -- a refusal before the run leaves the stores alone
-module _ (u v schedule : List ℕ) (w : ℕ) (first second : Columns) where
-  refused_by : {why : Refusal} (x : Checks) → checked x ≡ Err why → answer_by schedule w first second x ≡ leaving (refused why) first second
+module _ (U V S : Bor (List ℕ)) (w : ℕ) (first second : Columns) where
+  refused_by : {why : Refusal} (x : Checks) → checked U V S x ≡ Err why → answer_by S.now w first second x ≡ leaving (refused why) first second
   refused_by {why} (refuses other) e = let same : other ≡ why = cc in ap (λ (r : Refusal). leaving (refused r) first second) same
   refused_by (passes c d) e = cc
 
-  pub refused_answer : {why : Refusal} {report : Report} → checked (checks u v schedule w (lengths first) (lengths second)) ≡ Err why
-      → report ≡ refused why → leaving report first second ≡ answer u v schedule w first second
+  pub refused_answer : {why : Refusal} {report : Report}
+      → checked U V S (checks U.now V.now S.now w (lengths first) (lengths second)) ≡ Err why
+      → report ≡ refused why → leaving report first second ≡ answer U.now V.now S.now w first second
   unfolding answer
   refused_answer e reported =
-      ap (λ (r : Report). leaving r first second) reported ∙ sym (refused_by (checks u v schedule w (lengths first) (lengths second)) e)
+      ap (λ (r : Report). leaving r first second) reported ∙ sym (refused_by (checks U.now V.now S.now w (lengths first) (lengths second)) e)

@@ -19,17 +19,16 @@ use Rattle.miters.specs.Miter.{steps}
 use Rattle.miters.specs.Run.{Lent, Ended, ended, outcome}
 use Rattle.cofactors.specs.Slots.{store_in}
 use Rattle.searches.proofs.Held.{store_held, diagram_searchable, diagram_verdict}
-use Rattle.plans.specs.declared.Used.{Used}
+use Rattle.stores.specs.declared.Used.{Used}
 use Rattle.plans.specs.declared.Sizes.{Sizes}
 use Rattle.plans.specs.declared.Scratch.{Scratch as LentScratch}
 use Rattle.steps.specs.Stepping.{Source, Long, Scratch, lent_with}
-use Rattle.choices.specs.declared.Offsets.{Offsets}
+use Rattle.choices.specs.declared.Course.{Course}
 use Rattle.runs.specs.declared.Finish.{Finish}
 use Rattle.runs.specs.Running.{Task, Ran, ran, refused, Left}
 use Rattle.runs.proofs.Stores.{long_same}
-use Rattle.judges.specs.Answer.{answer}
 use Rattle.endings.specs.Ending.{kept, Readable, report_of}
-use Rattle.judges.specs.Calls.{Passed, leaving}
+use Rattle.judges.specs.Calls.{Passed, answer_along, leaving}
 use Rattle.judges.proofs.Passing.{Running, passed_running}
 
 -- ---- columns that are all 0
@@ -144,27 +143,30 @@ module _ {lent : Lent} {n : ℕ} {C : Columns} where
 -- ---- from the run to the answer
 
 -- a run of a pair that passed the checks: what it left in the stores, and how it ended
-pub record Run_over (u v schedule : List ℕ) (n : ℕ) (offsets : Offsets) (sizes : Sizes) (first second : LentStore)
-    (lent_scratch : LentScratch) (first' second' : LentStore) (r : Result Finish Refusal) : Type 0 where
-  pub left : Left u v schedule n offsets sizes (columns_of first) (columns_of second) lent_scratch (columns_of first') r
-  pub passed : Passed u v schedule sizes.width (columns_of first) (columns_of second) n offsets
+pub record Run_over (course : Course) (sizes : Sizes) (first second : LentStore) (lent_scratch : LentScratch)
+    (first' second' : LentStore) (r : Result Finish Refusal) : Type 0 where
+  pub left : Left course sizes (columns_of first) (columns_of second) lent_scratch (columns_of first') r
+  pub passed : Passed course sizes.width (columns_of first) (columns_of second)
   pub scratch : Scratch (length first.level.now) (length first.a.now) sizes lent_scratch
   pub first_same : SameColumns first first'
   pub second_same : SameColumns second second'
 
-module _ {u v schedule : List ℕ} {n : ℕ} {offsets : Offsets} {sizes : Sizes} {first second : LentStore}
+module _ {course : Course} {sizes : Sizes} {first second : LentStore}
     {lent_scratch : LentScratch} {first' second' : LentStore} {r : Result Finish Refusal}
-    (over : Run_over u v schedule n offsets sizes first second lent_scratch first' second' r) where
-  abbrev running : Running u v schedule n offsets sizes (columns_of first) (columns_of second) lent_scratch
-  running = passed_running u v schedule sizes (columns_of first) (columns_of second) offsets lent_scratch over.scratch n over.passed
+    (over : Run_over course sizes first second lent_scratch first' second' r) where
+  abbrev n : ℕ
+  n = course.n
 
-  abbrev task : Task u v schedule n offsets sizes (columns_of first) (columns_of second) lent_scratch
+  abbrev running : Running course sizes (columns_of first) (columns_of second) lent_scratch
+  running = passed_running over.passed over.scratch
+
+  abbrev task : Task course sizes (columns_of first) (columns_of second) lent_scratch
   task = running.task
 
   abbrev its_lent : Lent
   its_lent = lent_with sizes task.N task.L
 
-  its_end : Ran its_lent n (columns_of first') (ended its_lent n (steps schedule task.us task.vs)) r
+  its_end : Ran its_lent n (columns_of first') (ended its_lent n (steps course.schedule.now task.us task.vs)) r
   its_end = over.left task
 
   first_still : Long task.N task.L (columns_of first')
@@ -194,6 +196,6 @@ module _ {u v schedule : List ℕ} {n : ℕ} {offsets : Offsets} {sizes : Sizes}
           (subst (Long task.N task.L) is (long_same {s = first'} {s' = last} first_still same)) wiped_is
 
       pub over_answer : (D' : Columns) → D' ≡ wiped 0 0 (columns_of second') → {report : Report} → report ≡ report_of n C' r
-          → leaving report C' D' ≡ answer u v schedule sizes.width (columns_of first) (columns_of second)
+          → leaving report C' D' ≡ answer_along course sizes.width (columns_of first) (columns_of second)
       over_answer D' other_is reported =
           ran_outcome its_end used used_is first_still C' wiped_is second_still other_is reported ∙ sym running.answer_is

@@ -1,14 +1,23 @@
 -- What the functions below the call ask and answer. Definitions only.
-use Rattle.std.specs.Prelude.{◌≡◌, List, ℕ, ◌+◌, ◌*◌, ◌<◌, ◌≤◌, length, Ok}
+use Rattle.std.specs.Prelude.{◌≡◌, ℕ, ◌+◌, ◌*◌, ◌<◌, ◌≤◌, length, Ok}
 use Rattle.stores.specs.Columns.{Columns}
 use Rattle.miters.specs.declared.Report.{Report}
 use Rattle.miters.specs.Run.{Outcome}
-use Rattle.choices.specs.declared.Offsets.{Offsets}
+use Rattle.choices.specs.declared.Course.{Course}
 use Rattle.checks.specs.Checks.{checks, lengths, checked}
+use Rattle.judges.specs.Answer.{answer}
 
--- the checks passed with this pair
-abbrev pub Passed : (u v schedule : List ℕ) (w : ℕ) (first second : Columns) → ℕ → Offsets → Type 0
-Passed u v schedule w first second n offsets = checked (checks u v schedule w (lengths first) (lengths second)) ≡ Ok (record { n = n; offsets = offsets })
+-- the checks passed with this course: a fact of the call's whole input, which no one type owns
+abbrev pub Passed : (course : Course) (w : ℕ) (first second : Columns) → Type 0
+Passed course w first second =
+    let u = course.lists.first.bytes in
+    let v = course.lists.second.bytes in
+    let schedule = course.schedule in
+    checked u v schedule (checks u.now v.now schedule.now w (lengths first) (lengths second)) ≡ Ok course
+
+-- the answer on the lists of a course, along its schedule
+abbrev pub answer_along : Course → ℕ → Columns → Columns → Outcome
+answer_along course = answer course.lists.first.bytes.now course.lists.second.bytes.now course.schedule.now
 
 -- no more slots in a store's columns than this
 pub record AtMost (most : ℕ) (C : Columns) : Type 0 where

@@ -1,21 +1,18 @@
 // The call that judges two gate lists: the checks, the run, the report, and what the stores hold then.
 #![tactic(auto)]
 
-ghost use Rattle.std.specs.Prelude.{◌≡◌, ◌+◌, ◌*◌, ◌≤◌, length};
+ghost use Rattle.std.specs.Prelude.{◌≡◌, length};
 ghost use Rattle.stores.specs.Columns.{columns_of, SameColumns};
 ghost use Rattle.steps.specs.Stepping as stepping;
 ghost use Rattle.judges.specs.Answer.{answer};
-ghost use Rattle.judges.specs.Calls.{Passed, AtMost, Roomy, leaving};
+ghost use Rattle.judges.specs.Calls.{Passed, answer_along, AtMost, Roomy, leaving};
 
 use algebra::Entry;
-use checks::Pair;
+use checks::Lengths;
+use choices::Course;
 use miters::Report;
 use plans::{Scratch, Sizes};
-use runs::Course;
-use stores::Store;
-
-// The slots kept of the second store.
-const NOTHING: usize = 0;
+use stores::{Store, Used};
 
 // The scratch for stores of up to 4,096 nodes and values: as many terminals, the slots of an index (one for each of them, and 8,192
 // heads), and those of the computed table (6 for each of them, and 4 for each of 32,768 entries).
@@ -32,14 +29,9 @@ const LARGE_INDEX: usize = 131_072;
 
 const LARGE_TABLE: usize = 655_360;
 
-const ZERO: Entry = Entry {
-    a: 0,
-    b: 0,
-    c: 0,
-    d: 0,
-};
-
 // The run of a pair that passed the checks, in scratch that has room for it; the second store and what the first does not keep become 0.
+// The two stores come apart, here and in a run: of slices that are lent through a struct within a struct, the function that lends them is not
+// told what they become.
 fn judge_in(
     course: &Course<'_>,
     sizes: Sizes,
@@ -47,18 +39,16 @@ fn judge_in(
     second: &mut Store<'_>,
     scratch: &mut Scratch<'_>,
 ) -> Report
-    requires passed { Passed course.now.u.now course.now.v.now course.now.schedule.now sizes.width
-        (columns_of first.old) (columns_of second.old) course.now.n course.now.offsets }
+    requires passed { Passed course.now sizes.width (columns_of first.old) (columns_of second.old) }
     requires scratch { stepping.Scratch (length first.old.level.now) (length first.old.a.now) sizes scratch.old }
     ensures answer { leaving result (columns_of first.new) (columns_of second.new)
-        ≡ answer course.now.u.now course.now.v.now course.now.schedule.now sizes.width (columns_of first.old) (columns_of second.old) }
+        ≡ answer_along course.now sizes.width (columns_of first.old) (columns_of second.old) }
     ensures same_first { SameColumns first.old first.new }
     ensures same_second { SameColumns second.old second.new }
 {
     let ended = runs::run(course, sizes, first, second, scratch);
-    second.wipe(NOTHING, NOTHING);
-    let used = endings::kept(ended);
-    first.wipe(used.nodes as usize, used.values as usize);
+    second.wipe(Used::default());
+    first.wipe(endings::kept(ended));
     endings::report(&first.view(), course.n, ended)
 }
 
@@ -71,16 +61,15 @@ fn judge_within<const STORE: usize, const INDEX: usize, const TABLE: usize>(
     first: &mut Store<'_>,
     second: &mut Store<'_>,
 ) -> Report
-    requires passed { Passed course.now.u.now course.now.v.now course.now.schedule.now width
-        (columns_of first.old) (columns_of second.old) course.now.n course.now.offsets }
+    requires passed { Passed course.now width (columns_of first.old) (columns_of second.old) }
     requires roomy { Roomy STORE INDEX TABLE }
     requires at_most { AtMost STORE (columns_of first.old) }
     ensures answer { leaving result (columns_of first.new) (columns_of second.new)
-        ≡ answer course.now.u.now course.now.v.now course.now.schedule.now width (columns_of first.old) (columns_of second.old) }
+        ≡ answer_along course.now width (columns_of first.old) (columns_of second.old) }
     ensures same_first { SameColumns first.old first.new }
     ensures same_second { SameColumns second.old second.new }
 {
-    let mut terminals = [ZERO; STORE];
+    let mut terminals = [Entry::default(); STORE];
     let mut node_index = [0; INDEX];
     let mut value_index = [0; INDEX];
     let mut memo = [0; TABLE];
@@ -106,10 +95,9 @@ fn judge_sized(
     first: &mut Store<'_>,
     second: &mut Store<'_>,
 ) -> Report
-    requires { Passed course.now.u.now course.now.v.now course.now.schedule.now width
-        (columns_of first.old) (columns_of second.old) course.now.n course.now.offsets }
+    requires { Passed course.now width (columns_of first.old) (columns_of second.old) }
     ensures answer { leaving result (columns_of first.new) (columns_of second.new)
-        ≡ answer course.now.u.now course.now.v.now course.now.schedule.now width (columns_of first.old) (columns_of second.old) }
+        ≡ answer_along course.now width (columns_of first.old) (columns_of second.old) }
     ensures same_first { SameColumns first.old first.new }
     ensures same_second { SameColumns second.old second.new }
 {
@@ -120,11 +108,12 @@ fn judge_sized(
     }
 }
 
-// The verdict on list u against list v along a schedule, in numbers of the width w, in two lent stores.
-pub fn judge<'a>(
-    u: &'a [u8],
-    v: &'a [u8],
-    schedule: &'a [u8],
+// The verdict on list u against list v along a schedule, in numbers of the width w, in two lent stores. The lists and the schedule come
+// apart, as the C interface lends them.
+pub fn judge(
+    u: &[u8],
+    v: &[u8],
+    schedule: &[u8],
     w: u32,
     first: &mut Store<'_>,
     second: &mut Store<'_>,
@@ -134,24 +123,8 @@ pub fn judge<'a>(
     ensures same_first { SameColumns first.old first.new }
     ensures same_second { SameColumns second.old second.new }
 {
-    match checks::check(
-        u,
-        v,
-        schedule,
-        w,
-        checks::lengths_of(first),
-        checks::lengths_of(second),
-    ) {
-        Ok(Pair { n, offsets }) => {
-            let course = Course {
-                u,
-                v,
-                schedule,
-                n,
-                offsets,
-            };
-            judge_sized(&course, w, first, second)
-        }
-        Err(why) => miters::refused(why),
+    match checks::check(u, v, schedule, w, Lengths::of(first), Lengths::of(second)) {
+        Ok(course) => judge_sized(&course, w, first, second),
+        Err(why) => Report::from(why),
     }
 }

@@ -7,7 +7,7 @@ ghost use Rattle.transitions.specs.Source.{vals_of, HoldsSlot, ReadingLeaf};
 ghost use Rattle.transitions.specs.Next.{is_leaf, leaf_entry};
 
 use algebra::Entry;
-use stores::View;
+use stores::Values;
 use transitions::{Mode, State};
 
 #[inline]
@@ -24,7 +24,7 @@ pub fn is_leaf(state: State) -> bool
 
 // The entry of a state with no question left, if it lies within the width.
 #[tactic(auto, unfolding(transitions::specs::Next::is_leaf, transitions::specs::Next::leaf_entry))]
-pub fn leaf(source: &View<'_>, state: State, width: u32) -> Option<Entry>
+pub fn leaf(source: &Values<'_>, state: State, width: u32) -> Option<Entry>
     requires { HoldsSlot (vals_of source.now) (state.x / 2) × HoldsSlot (vals_of source.now) (state.y / 2) }
     ensures { ReadingLeaf (vals_of source.now) state
         (λ s. result ≡ bounded width (leaf_entry s state)) }
@@ -34,7 +34,8 @@ pub fn leaf(source: &View<'_>, state: State, width: u32) -> Option<Entry>
         Mode::Turning(power) => algebra::turned(e, power, width),
         Mode::Adding => algebra::sum(e, source.value_at((state.y / 2) as usize), width),
         Mode::Subtracting => algebra::difference(e, source.value_at((state.y / 2) as usize), width),
-        // these have a question left
+        // These have a question left, and no caller comes here with one. The function asks nothing of the mode, so it needs some answer: None, as
+        // for an entry outside the width.
         Mode::Waiting(_) | Mode::Swapping { .. } | Mode::Choosing { .. } => None,
     }
 }

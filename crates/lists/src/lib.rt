@@ -23,11 +23,7 @@ fn read_count(reader: &mut Reader<'_>, low: u32, high: u32, fault: Fault) -> Res
 {
     let offset = reader.at;
     let value = reader.number()?;
-    if (low..=high).contains(&value) {
-        Ok(value)
-    } else {
-        Err(Refusal { fault, offset })
-    }
+    circuits::kept((low..=high).contains(&value), fault, offset, value)
 }
 
 // The gates of a list, the first of which stands next, and its end.

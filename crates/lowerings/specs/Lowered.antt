@@ -1,24 +1,17 @@
 -- What is left of a product's terminals. Definitions only.
-use Rattle.std.specs.Prelude.{◌≡◌, Bool, true, false, List, map, ℕ, length}
+use Rattle.std.specs.Prelude.{◌≡◌, Option, Some, None, List, ℕ}
 use Rattle.algebra.specs.declared.Entry.{Entry}
-use Rattle.algebra.specs.Division.{over_√2}
 use Rattle.algebra.specs.Lowering.{lower_values}
 use Rattle.uniques.specs.UniqueTable.{values_in}
 use Rattle.stores.specs.Columns.{Columns, Published}
 
--- the terminals used are divided by √2; the slots past them are left open
-pub record Divided (used : ℕ) (terminals terminals' : List Entry) : Type 0 where
-  pub values : values_in used terminals' ≡ map over_√2 (values_in used terminals)
-  pub long : length terminals' ≡ length terminals
+-- the terminals are divided by √2 as often as it goes, and r is the exponent then
+pub record Lowers (power : ℕ) (terminals terminals' : List Entry) (r : ℕ) : Type 0 where
+  pub values : terminals' ≡ (lower_values power terminals).values
+  pub exponent : r ≡ (lower_values power terminals).power
 
--- they are divided as often as it goes, and r is the exponent then; the slots past them are left open
-pub record Lowers (used power : ℕ) (terminals terminals' : List Entry) (r : ℕ) : Type 0 where
-  pub values : values_in used terminals' ≡ (lower_values power (values_in used terminals)).values
-  pub exponent : r ≡ (lower_values power (values_in used terminals)).power
-  pub long : length terminals' ≡ length terminals
-
--- of a product that was built, they are lowered and published; of any other nothing is done
-pub record PublishedLowered (is_built : Bool) (used power : ℕ) (terminals : List Entry) (C C' : Columns) (r : ℕ) : Type 0 where
-  pub built : is_built ≡ true
-      → Published (lower_values power (values_in used terminals)).values C C' × (r ≡ (lower_values power (values_in used terminals)).power)
-  pub refused : is_built ≡ false → (C' ≡ C) × (r ≡ 0)
+-- of a product that was built with a count of terminals, these are lowered and published, with the exponent then; of any other nothing is done
+abbrev pub PublishedLowered : Option ℕ → ℕ → List Entry → Columns → Columns → Option ℕ → Type 0
+PublishedLowered (Some used) power terminals C C' r =
+    let lowered = lower_values power (values_in used terminals) in Published lowered.values C C' × (r ≡ Some lowered.power)
+PublishedLowered None power terminals C C' r = (C' ≡ C) × (r ≡ None)

@@ -1,67 +1,59 @@
-// A product's terminals over its exponent, divided by √2 while it goes.
+// A product's terminals over its exponent, divided by √2 while it goes. No run calls it yet.
 #![tactic(auto)]
 
-ghost use Rattle.std.specs.Prelude.{◌≡◌, ◌≤◌, true, length};
-ghost use Rattle.algebra.specs.Division.{divisible};
+ghost use Rattle.std.specs.Prelude.{◌≡◌, ◌≤◌, IfSome, length, map};
+ghost use Rattle.algebra.specs.Division.{divisible, over_√2};
 ghost use Rattle.algebra.specs.Lowering.{every};
-ghost use Rattle.uniques.specs.UniqueTable.{values_in};
 ghost use Rattle.stores.specs.Columns.{columns_of, SameColumns, ValueColumns};
-ghost use Rattle.lowerings.specs.Lowered.{Divided, Lowers, PublishedLowered};
+ghost use Rattle.lowerings.specs.Lowered.{Lowers, PublishedLowered};
 
 use algebra::Entry;
 use stores::Store;
 
-// Whether each of the first `used` terminals is a multiple of √2.
-fn all_divisible(terminals: &[Entry], used: usize) -> bool
-    requires { used ≤ length terminals.now }
-    ensures { result ≡ every divisible (values_in used terminals.now) }
+// Whether each terminal is a multiple of √2.
+fn all_divisible(terminals: &[Entry]) -> bool
+    ensures { result ≡ every divisible terminals.now }
 {
-    terminals[..used].iter().all(|x| algebra::divisible(*x))
+    terminals.iter().all(|x| algebra::divisible(*x))
 }
 
-// Each of the first `used` terminals is divided by √2. The slots past them are left open.
-fn divide_all(terminals: &mut [Entry], used: usize)
-    requires { used ≤ length terminals.old }
-    ensures { Divided used terminals.old terminals.new }
+// Each terminal is divided by √2.
+fn divide_all(terminals: &mut [Entry])
+    ensures { terminals.new ≡ map over_√2 terminals.old }
 {
-    for x in terminals[..used].iter_mut() {
+    for x in terminals.iter_mut() {
         *x = algebra::over_root(*x);
     }
 }
 
-// The first `used` terminals are divided while the exponent is above 0 and each of them is a multiple of √2; the exponent then.
-// The slots past them are left open.
-fn lower(terminals: &mut [Entry], used: u32, power: u32) -> u32
-    requires { used ≤ length terminals.old }
-    ensures { Lowers used power terminals.old terminals.new result }
+// The terminals are divided while the exponent is above 0 and each of them is a multiple of √2; the exponent then.
+fn lower(terminals: &mut [Entry], power: u32) -> u32
+    ensures { Lowers power terminals.old terminals.new result }
 {
-    let n = used as usize;
     for k in (0..power).rev() {
-        if !all_divisible(terminals, n) {
+        if !all_divisible(terminals) {
             return k + 1;
         }
-        divide_all(terminals, n);
+        divide_all(terminals);
     }
     0
 }
 
-// Of a product that was built the first `used` terminals, lowered, go into the value columns, whose slots past them stay; the
-// exponent then. Of any other the columns stay, and it is 0. What the terminals are then is left open.
+// Of a product that was built with a count of terminals, these, lowered, go into the value columns, whose slots past them stay; the
+// exponent then. Of any other the columns stay, and there is none. What the terminals are then is left open.
 pub fn publish_lowered(
     terminals: &mut [Entry],
-    built: bool,
-    used: u32,
+    built: Option<u32>,
     power: u32,
     store: &mut Store<'_>,
-) -> u32
-    requires { built ≡ true → (used ≤ length terminals.old) × ValueColumns (columns_of store.old) used }
-    ensures lowered { PublishedLowered built used power terminals.old (columns_of store.old) (columns_of store.new) result }
+) -> Option<u32>
+    requires { IfSome built (λ used. (used ≤ length terminals.old) × ValueColumns (columns_of store.old) used) }
+    ensures lowered { PublishedLowered built power terminals.old (columns_of store.old) (columns_of store.new) result }
     ensures same_columns { SameColumns store.old store.new }
 {
-    if !built {
-        return 0;
-    }
-    let k = lower(terminals, used, power);
-    store.publish(terminals, used);
-    k
+    let used = built?;
+    let product = &mut terminals[..used as usize];
+    let power = lower(product, power);
+    store.publish(product);
+    Some(power)
 }

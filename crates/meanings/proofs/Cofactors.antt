@@ -41,7 +41,8 @@ cofactor_ref s level b x = by_ref (ref_of x) refl
 
 -- ---- what is reached
 
-reached_below : (s : Store Entry) (level : ℕ) (b : Bool) (r : Ref) (l : Bits) → reached 𝟘 s level r (b ∷ l) ≡ reached 𝟘 s (suc level) (below s level b r) l
+reached_below : (s : Store Entry) (level : ℕ) (b : Bool) (r : Ref) (l : Bits)
+    → reached 𝟘 s level r (b ∷ l) ≡ reached 𝟘 s (suc level) (below s level b r) l
 reached_below s level b (value j) l = refl
 reached_below s level b (node i) l = by_level (eqb (node_at s i).level level)
   where

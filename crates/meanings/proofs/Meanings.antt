@@ -14,7 +14,7 @@ use Rattle.algebra.specs.Matrix.{Bits}
 use Rattle.algebra.proofs.Rings.{zero_add, neg_zero}
 use Rattle.algebra.proofs.Entries.{entries, ⊕-zero, ⊖-is, turned_four}
 use Rattle.gates.specs.Gate.{bit, all_set, exchanged}
-use Rattle.gates.specs.Rule.{phase, flipped, acted}
+use Rattle.gates.specs.Rule.{does_mix, does_swap, phase, flipped, acted}
 use Rattle.diagrams.specs.Diagram.{Store, reached, ref_of}
 use Rattle.diagrams.proofs.Tests.{both_true}
 use Rattle.transitions.specs.declared.Mode.{Mode}
@@ -173,7 +173,8 @@ module _ (plan : Plan) (s : Store Entry) (valid : ValidPlan plan s) (level : ℕ
         ∙ ap (λ (Q : ℕ → Bool). cond (all_set Q l) made (F (b ∷ l))) (controls_later plan level)
 
     -- before a swap's second target: a control at this level whose bit is 0 ends it
-    swapping_later : (seen : Bool) (x y x' y' : ℕ) → level < plan.stage plan.second → ((m : Bits) → gives s level x (b ∷ m) ≡ gives s (suc level) x' m)
+    swapping_later : (seen : Bool) (x y x' y' : ℕ) → level < plan.stage plan.second
+        → ((m : Bits) → gives s level x (b ∷ m) ≡ gives s (suc level) x' m)
         → ((m : Bits) → gives s level y (b ∷ m) ≡ gives s (suc level) y' m)
         → swapping_on level seen x y (b ∷ l) ≡ cond (not (control plan level) || b) (swapping_on (suc level) seen x' y' l) (gives s (suc level) x' l)
     swapping_later seen x y x' y' before x_goes y_goes =
@@ -181,8 +182,8 @@ module _ (plan : Plan) (s : Store Entry) (valid : ValidPlan plan s) (level : ℕ
         let j = plan.stage plan.second - suc level in
         ap₂ (λ (q : ℕ) (t : Bool). cond t (cond (beq (bit (b ∷ l) q) seen) (gives s level x (b ∷ l)) (gives s level y (set (b ∷ l) q seen)))
         (gives s level x (b ∷ l))) one_less (all_set_from plan level b l)
-        ∙ ap₂ (λ (u w : Entry). cond ((not (control plan level) || b) && all_set (controls_from plan (suc level)) l) (cond (beq (bit l j) seen) u w) u)
-        (x_goes l) (y_goes (set l j seen))
+        ∙ ap₂ (λ (u w : Entry). cond ((not (control plan level) || b) && all_set (controls_from plan (suc level)) l)
+        (cond (beq (bit l j) seen) u w) u) (x_goes l) (y_goes (set l j seen))
         ∙ split (not (control plan level) || b) (all_set (controls_from plan (suc level)) l) _ _
       where
         split : (t a : Bool) (u w : Entry) → cond (t && a) u w ≡ cond t (cond a u w) w
@@ -213,7 +214,8 @@ module _ (plan : Plan) (s : Store Entry) (valid : ValidPlan plan s) (level : ℕ
     passed_by (Waiting k) x y now later =
         let up_to_lem = now.suits.0 in
         let target_below = valid.has_target in
-        acting_free b l x x (target_ahead plan s valid k level up_to_lem later.ahead) (λ m. reached_passed plan s level b (ref_of x) m later.x_asks.from)
+        acting_free b l x x (target_ahead plan s valid k level up_to_lem later.ahead)
+        (λ m. reached_passed plan s level b (ref_of x) m later.x_asks.from)
         (control_between plan s valid k level (omega arith) now.suits.2 later.ahead)
     passed_by (Swapping k seen) x y now later =
         let last = valid.has_second in
@@ -250,7 +252,7 @@ module _ (plan : Plan) (s : Store Entry) (valid : ValidPlan plan s) (level : ℕ
     at_target_means : (x : ℕ) → Asks plan s level x → plan.stage plan.target ≡ level → Passed plan plan.target level
         → acting_on level x (b ∷ l) ≡ meaning plan s (suc level) (at_target plan s level b (suc plan.target) x) l
     unfolding at_target active
-    at_target_means x asks here passed = acting_here b l x here ∙ by_action plan.mixes plan.swaps refl refl
+    at_target_means x asks here passed = acting_here b l x here ∙ by_action (does_mix plan.act) (does_swap plan.act) refl refl
       where
         passed_target : Passed plan (suc plan.target) (suc level)
         passed_target = passed_stage plan plan.target level passed here
@@ -261,7 +263,7 @@ module _ (plan : Plan) (s : Store Entry) (valid : ValidPlan plan s) (level : ℕ
         taken : Bool
         taken = flipped (plan_rule plan) b
 
-        alone : plan.mixes ≡ true → active ≡ true
+        alone : does_mix plan.act ≡ true → active ≡ true
         alone mixes =
             let one = last (valid.mixes_alone mixes) valid.has_target in
             all_passed plan s valid (suc level) l (subst (λ (n : ℕ). Passed plan n (suc level)) one passed_target)
@@ -279,7 +281,7 @@ module _ (plan : Plan) (s : Store Entry) (valid : ValidPlan plan s) (level : ℕ
             (cond mixes (mix (F (false ∷ l)) (F (true ∷ l)))
             (cond swaps (F (exchanged 0 (plan.stage plan.second - level) (b ∷ l))) (turned (phase plan.phases b) (F (taken ∷ l))))) (F (b ∷ l))
 
-        by_action : (mixes swaps : Bool) → plan.mixes ≡ mixes → plan.swaps ≡ swaps → made_by mixes swaps
+        by_action : (mixes swaps : Bool) → does_mix plan.act ≡ mixes → does_swap plan.act ≡ swaps → made_by mixes swaps
             ≡ meaning plan s (suc level) (cond mixes
             (paired plan b (cofactor s level false x) (cofactor s level true x))
             (cond swaps
@@ -370,7 +372,8 @@ module _ (plan : Plan) (s : Store Entry) (valid : ValidPlan plan s) (level : ℕ
         later : level < plan.stage plan.second → swapping_on level seen x y (b ∷ l)
             ≡ cond (not (control plan level) || b) (swapping_on (suc level) seen x' y' l) (own b x)
         later before =
-            swapping_later b l seen x y (cofactor s level b x) (cofactor s level b y) before (reached_cofactor s level b x) (reached_cofactor s level b y)
+            swapping_later b l seen x y (cofactor s level b x) (cofactor s level b y) before
+            (reached_cofactor s level b x) (reached_cofactor s level b y)
 
         swapping_means : (j : ℕ) → swapping_on (suc level) seen x' y' l ≡ meaning plan s (suc level) (on_both (Swapping j seen) x' y') l
         swapping_means j = sym (meaning_on plan s valid (suc level) l (Swapping j seen) x' y')
@@ -466,6 +469,7 @@ module _ (plan : Plan) (s : Store Entry) (valid : ValidPlan plan s) (level : ℕ
             apart below last = omega arith
 
     -- after a bit, a state means what the next state does
-    pub meaning_next : (σ : State) → SoundAt plan s level σ → meaning plan s level σ (b ∷ l) ≡ meaning plan s (suc level) (next_state plan s level b σ) l
+    pub meaning_next : (σ : State) → SoundAt plan s level σ
+        → meaning plan s level σ (b ∷ l) ≡ meaning plan s (suc level) (next_state plan s level b σ) l
     unfolding meaning next_state
     meaning_next σ sound = next_means_by σ.mode σ.x σ.y sound

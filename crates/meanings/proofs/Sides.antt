@@ -12,7 +12,7 @@ use Rattle.algebra.specs.Matrix.{Bits, Matrix}
 use Rattle.gates.specs.declared.Phases.{Phases}
 use Rattle.gates.specs.declared.Rule.{Rule}
 use Rattle.gates.specs.Gate.{Gate, bit, all_set, exchanged, Fits}
-use Rattle.gates.specs.Rule.{phase, gate_rule, controls, target, second, mixed, moved, acted}
+use Rattle.gates.specs.Rule.{does_flip, does_mix, does_swap, phase, gate_rule, controls, target, second, mixed, moved, acted}
 use Rattle.gates.proofs.LocalRules.{product_left, product_right}
 use Rattle.diagrams.specs.Diagram.{levels, rows, columns, entries}
 use Rattle.diagrams.proofs.Places.{levels_double, length_halves}
@@ -69,7 +69,8 @@ spreads_later : (right : Bool) (Q P : ℕ → Bool) → Spreads right Q P → Sp
 spreads_later false Q P spreads = record { same_side = λ q. spreads.same_side (suc q); other_side = λ q. spreads.other_side (suc q) }
 spreads_later true Q P spreads = record { same_side = λ q. spreads.same_side (suc q); other_side = λ q. spreads.other_side (suc q) }
 
-pub all_set_half : (right : Bool) (Q P : ℕ → Bool) (n : ℕ) (l : Bits) → Spreads right Q P → length l ≡ levels n → all_set P l ≡ all_set Q (half right l)
+pub all_set_half : (right : Bool) (Q P : ℕ → Bool) (n : ℕ) (l : Bits) → Spreads right Q P → length l ≡ levels n
+    → all_set P l ≡ all_set Q (half right l)
 all_set_half false Q P n [] spreads e = refl
 all_set_half true Q P n [] spreads e = refl
 all_set_half right Q P zero (x ∷ []) spreads e = absurd (omega arith)
@@ -95,7 +96,8 @@ line_half : (M : Matrix) (right : Bool) (l : Bits) → line M right l (half righ
 line_half M false l = refl
 line_half M true l = refl
 
-line_set : (M : Matrix) (right : Bool) (l : Bits) (q : ℕ) (b : Bool) → line M right l (set (half right l) q b) ≡ entries M (set l (level_on right q) b)
+line_set : (M : Matrix) (right : Bool) (l : Bits) (q : ℕ) (b : Bool)
+    → line M right l (set (half right l) q b) ≡ entries M (set l (level_on right q) b)
 line_set M false l q b = ap₂ M (sym (set_half false l q b).0) (sym (set_half false l q b).1)
 line_set M true l q b = ap₂ M (sym (set_half true l q b).1) (sym (set_half true l q b).0)
 
@@ -135,19 +137,21 @@ module _ (rule : Rule) (p : Phases) (M : Matrix) (right : Bool) (Q P : ℕ → B
       ∙ ap₂ (λ (u w : Entry). cond (bit l (level_on right q)) (u ⊖ w) (u ⊕ w)) (line_set M right l q false) (line_set M right l q true)
 
   moved_place : moved rule p q L h ≡ moved rule p (level_on right q) (entries M) l
-  moved_place = ap₂ (λ (b : Bool) (x : Entry). turned (phase p b) x) (bit_half right l q) (taken_place rule.flips)
-
-  abbrev at_level : Entry → Entry → Entry → Entry → Entry
-  at_level mix swap move plain = cond (all_set P l) (cond rule.mixes mix (cond rule.swaps swap move)) plain
+  moved_place = ap₂ (λ (b : Bool) (x : Entry). turned (phase p b) x) (bit_half right l q) (taken_place (does_flip rule.act))
 
   pub acted_place : acted rule p Q q q' (line M right l) (half right l) ≡ acted rule p P (level_on right q) (level_on right q') (entries M) l
   unfolding acted
   acted_place =
-      ap (λ (t : Bool). cond t (cond rule.mixes (mixed q L h) (cond rule.swaps (L (exchanged q q' h)) (moved rule p q L h))) (L h))
+      ap (λ (t : Bool). cond t (cond (does_mix rule.act) (mixed q L h) (cond (does_swap rule.act) (L (exchanged q q' h)) (moved rule p q L h))) (L h))
       (sym (all_set_half right Q P n l spreads size))
-      ∙ ap₂ (λ (u w : Entry). at_level u (L (exchanged q q' h)) w (L h)) mixed_place moved_place
-      ∙ ap₂ (λ (u w : Entry). at_level (mixed (level_on right q) (entries M) l) u (moved rule p (level_on right q) (entries M) l) w)
-      (line_exchanged M right l q q') (line_half M right l)
+      ∙ ap₂ (cond (all_set P l)) (by_action (does_mix rule.act) (does_swap rule.act)) (line_half M right l)
+    where
+      by_action : (mixes swaps : Bool) → cond mixes (mixed q L h) (cond swaps (L (exchanged q q' h)) (moved rule p q L h))
+          ≡ cond mixes (mixed (level_on right q) (entries M) l)
+          (cond swaps (entries M (exchanged (level_on right q) (level_on right q') l)) (moved rule p (level_on right q) (entries M) l))
+      by_action true swaps = mixed_place
+      by_action false true = line_exchanged M right l q q'
+      by_action false false = moved_place
 
 -- the phases of a side
 abbrev pub phases_on : Bool → Rule → Phases
@@ -155,7 +159,8 @@ phases_on false rule = rule.left
 phases_on true rule = rule.right
 
 -- the product with a gate on either side, by place
-pub product_place : (n : ℕ) (right : Bool) (g : Gate) (P : ℕ → Bool) → Fits n g → Spreads right (controls g) P → (M : Matrix) (l : Bits) → length l ≡ levels n
+pub product_place : (n : ℕ) (right : Bool) (g : Gate) (P : ℕ → Bool) → Fits n g → Spreads right (controls g) P
+    → (M : Matrix) (l : Bits) → length l ≡ levels n
     → entries (product_on right n g M) l
     ≡ acted (gate_rule g) (phases_on right (gate_rule g)) P (level_on right (target g)) (level_on right (second g)) (entries M) l
 product_place n false g P fits spreads M l size =

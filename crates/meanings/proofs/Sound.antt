@@ -7,7 +7,7 @@ use native.Mathlib.Omega.{arith}
 use lib.Dec.{eqb}
 use borrow.Author.Tests.{eqb-true, eqb-false}
 use Rattle.algebra.specs.declared.Entry.{Entry}
-use Rattle.gates.specs.Rule.{phase, flipped}
+use Rattle.gates.specs.Rule.{does_mix, does_swap, phase, flipped}
 use Rattle.diagrams.specs.Diagram.{Store, ref_of}
 use Rattle.transitions.specs.declared.Mode.{Mode}
 use Rattle.transitions.specs.declared.Mode.TheVariants.{Turning, Adding, Subtracting, Waiting, Swapping, Choosing}
@@ -162,9 +162,9 @@ module _ (plan : Plan) (s : Store Entry) (valid : ValidPlan plan s) (level : ℕ
   at_target_sound : (x : ℕ) → Asks plan s level x → Passed plan plan.target level → plan.stage plan.target ≡ level
       → SoundAt plan s (suc level) (at_target plan s level b (suc plan.target) x)
   unfolding at_target
-  at_target_sound x asks passed here = by_action plan.mixes plan.swaps refl
+  at_target_sound x asks passed here = by_action (does_mix plan.act) (does_swap plan.act) refl
     where
-      by_action : (mixes swaps : Bool) → plan.swaps ≡ swaps → SoundAt plan s (suc level) (cond mixes
+      by_action : (mixes swaps : Bool) → does_swap plan.act ≡ swaps → SoundAt plan s (suc level) (cond mixes
           (paired plan b (cofactor s level false x) (cofactor s level true x))
           (cond swaps
           (on_both (Swapping (suc plan.target) b) (cofactor s level b x) (cofactor s level (not b) x))
@@ -199,7 +199,8 @@ module _ (plan : Plan) (s : Store Entry) (valid : ValidPlan plan s) (level : ℕ
       own = after x b sound.x_asks
 
       at_stage : plan.stage k ≡ level → (t : Bool) → eqb plan.target k ≡ t
-          → SoundAt plan s (suc level) (cond t (at_target plan s level b (suc k) x) (on_one (cond b (Waiting (suc k)) (Turning 0)) (cofactor s level b x)))
+          → SoundAt plan s (suc level) (cond t (at_target plan s level b (suc k) x)
+          (on_one (cond b (Waiting (suc k)) (Turning 0)) (cofactor s level b x)))
       at_stage here true e =
           let target : plan.target ≡ k = eqb-true _ _ e in
           subst (λ (j : ℕ). SoundAt plan s (suc level) (at_target plan s level b (suc j) x)) target
@@ -236,8 +237,8 @@ module _ (plan : Plan) (s : Store Entry) (valid : ValidPlan plan s) (level : ℕ
       at_second here is_second true = plain
       at_second here is_second false =
           let last = valid.has_second in
-          chosen_sound plan s valid (suc level) (cofactor s level b x) (cofactor s level seen y) own (after y seen sound.y_asks) (suc k) 0 (omega arith)
-          (omega arith) (omega arith) (passed_stage plan k level sound.suits.2 here) (stage_after k here)
+          chosen_sound plan s valid (suc level) (cofactor s level b x) (cofactor s level seen y) own (after y seen sound.y_asks) (suc k) 0
+          (omega arith) (omega arith) (omega arith) (passed_stage plan k level sound.suits.2 here) (stage_after k here)
 
       at_control : plan.stage k ≡ level → (plan.second ≡ k → ⊥) → (c : Bool) → SoundAt plan s (suc level) (cond c
           (on_both (Swapping (suc k) seen) (cofactor s level b x) (cofactor s level b y)) (on_one (Turning 0) (cofactor s level b x)))

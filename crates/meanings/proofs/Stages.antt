@@ -12,7 +12,7 @@ use borrow.Author.Tests.{eq-eqb, ne_eqb}
 use Rattle.algebra.specs.declared.Entry.{Entry}
 use Rattle.algebra.specs.Matrix.{Bits}
 use Rattle.gates.specs.Gate.{all_set}
-use Rattle.gates.specs.Rule.{phase}
+use Rattle.gates.specs.Rule.{does_swap, phase}
 use Rattle.gates.proofs.LocalRules.{all_set_none}
 use Rattle.diagrams.specs.Diagram.{Store}
 use Rattle.transitions.specs.Plan.{Plan, among, targeted, control}
@@ -87,9 +87,9 @@ module _ (plan : Plan) (s : Store Entry) (valid : ValidPlan plan s) where
 
   -- the target is not after the second
   pub target_up_to : plan.target ≤ plan.second
-  target_up_to = by_swaps plan.swaps refl
+  target_up_to = by_swaps (does_swap plan.act) refl
     where
-      by_swaps : (b : Bool) → plan.swaps ≡ b → plan.target ≤ plan.second
+      by_swaps : (b : Bool) → does_swap plan.act ≡ b → plan.target ≤ plan.second
       by_swaps true e = let first = valid.target_first e in omega arith
       by_swaps false e = let same = valid.target_only e in omega arith
 
@@ -124,7 +124,8 @@ module _ (plan : Plan) (s : Store Entry) (valid : ValidPlan plan s) where
       by_order (no not_less) = let rises = valid.stages_ascend k j (omega (arith, other)) h in omega arith
 
   -- at any other stage
-  pub control_stage : (k level : ℕ) → k < plan.stages → plan.stage k ≡ level → (plan.target ≡ k → ⊥) → (plan.second ≡ k → ⊥) → control plan level ≡ true
+  pub control_stage : (k level : ℕ) → k < plan.stages → plan.stage k ≡ level → (plan.target ≡ k → ⊥) → (plan.second ≡ k → ⊥)
+      → control plan level ≡ true
   control_stage k level below here other other' =
       ap₂ (λ (a b : Bool). a && not b) (among_one plan.stages plan.stage level k below here)
       (ap₂ ◌||◌

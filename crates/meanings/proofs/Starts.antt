@@ -14,11 +14,13 @@ use Rattle.algebra.specs.declared.Entry.{Entry}
 use Rattle.algebra.specs.Entry.{𝟘, ◌⊕◌, ◌⊖◌, turned}
 use Rattle.algebra.specs.Matrix.{Bits, Matrix, everywhere}
 use Rattle.algebra.specs.Width.{entry_in_width}
+use Rattle.gates.specs.declared.Act.{Act}
+use Rattle.gates.specs.declared.Act.TheVariants.{Keeps, Flips, Mixes, Swaps}
 use Rattle.gates.specs.declared.Phases.{Phases}
 use Rattle.gates.specs.declared.Rule.{Rule}
 use Rattle.gates.specs.Gate.{X, Y, Z, H, S, S†, T, T†, CNOT, CZ, Gate, on, pair, toffoli, fredkin}
 use Rattle.gates.specs.Gate.{is, bit, in_mask, all_set, exchanged, names, Fits}
-use Rattle.gates.specs.Rule.{phases, phase, gate_rule, controls, target, second, mixed, moved, acted}
+use Rattle.gates.specs.Rule.{does_flip, does_mix, does_swap, phases, phase, gate_rule, controls, target, second, mixed, moved, acted}
 use Rattle.gates.proofs.Naming.{is_refl, is_sound, is_apart}
 use Rattle.gates.proofs.LocalRules.{kind_alone, pair_alone}
 use Rattle.diagrams.specs.Diagram.{Ref, code, Store, reached, ref_of}
@@ -51,7 +53,8 @@ diagram_closed n M = walked (diagram n M).store (diagram_reduced n M).numbered (
 
 -- ---- a gate's data
 
-rule_small : (g : Gate) → ((gate_rule g).left.zero < 8) × ((gate_rule g).left.one < 8) × ((gate_rule g).right.zero < 8) × ((gate_rule g).right.one < 8)
+rule_small : (g : Gate)
+    → ((gate_rule g).left.zero < 8) × ((gate_rule g).left.one < 8) × ((gate_rule g).right.zero < 8) × ((gate_rule g).right.one < 8)
 rule_small (on X q) = omega arith
 rule_small (on Y q) = omega arith
 rule_small (on Z q) = omega arith
@@ -83,38 +86,37 @@ on_side false rule = refl
 
 -- ---- the rule, with a plan's data and over entries that agree
 
-acted_alike : (rule rule' : Rule) (p p' : Phases) (P : ℕ → Bool) (q q' : ℕ) (F : Bits → Entry) (l : Bits) → rule.mixes ≡ rule'.mixes
-    → rule.flips ≡ rule'.flips → rule.swaps ≡ rule'.swaps → (rule'.mixes ≡ false → p ≡ p') → acted rule p P q q' F l ≡ acted rule' p' P q q' F l
+acted_alike : (rule rule' : Rule) (p p' : Phases) (P : ℕ → Bool) (q q' : ℕ) (F : Bits → Entry) (l : Bits) → rule.act ≡ rule'.act
+    → (does_mix rule'.act ≡ false → p ≡ p') → acted rule p P q q' F l ≡ acted rule' p' P q q' F l
 unfolding acted
-acted_alike rule rule' p p' P q q' F l mixes_same flips_same swaps_same phases_same =
-    ap₂ (λ (mixes flips : Bool). cond (all_set P l) (cond mixes (mixed q F l) (cond rule.swaps (F (exchanged q q' l))
-    (turned (phase p (bit l q)) (F (cond flips (set l q (not (bit l q))) l))))) (F l))
-    mixes_same flips_same
-    ∙ ap (λ (swaps : Bool). cond (all_set P l) (cond rule'.mixes (mixed q F l) (cond swaps (F (exchanged q q' l)) (moved rule' p q F l))) (F l)) swaps_same
-    ∙ ap (λ (x : Entry). cond (all_set P l) x (F l)) (by_mixes rule'.mixes refl)
+acted_alike rule rule' p p' P q q' F l act_same phases_same =
+    ap (λ (act : Act). cond (all_set P l) (cond (does_mix act) (mixed q F l) (cond (does_swap act) (F (exchanged q q' l))
+    (turned (phase p (bit l q)) (F (cond (does_flip act) (set l q (not (bit l q))) l))))) (F l)) act_same
+    ∙ ap (λ (x : Entry). cond (all_set P l) x (F l)) (by_mixes (does_mix rule'.act) refl)
   where
     rest : Phases → Entry
-    rest r = cond rule'.swaps (F (exchanged q q' l)) (moved rule' r q F l)
+    rest r = cond (does_swap rule'.act) (F (exchanged q q' l)) (moved rule' r q F l)
 
-    by_mixes : (m : Bool) → rule'.mixes ≡ m → cond m (mixed q F l) (rest p) ≡ cond m (mixed q F l) (rest p')
+    by_mixes : (m : Bool) → does_mix rule'.act ≡ m → cond m (mixed q F l) (rest p) ≡ cond m (mixed q F l) (rest p')
     by_mixes true e = refl
     by_mixes false e = ap rest (phases_same e)
 
 acted_ext : (rule : Rule) (p : Phases) (P : ℕ → Bool) (q q' : ℕ) (F G : Bits → Entry) (l : Bits) → ((m : Bits) → length m ≡ length l → F m ≡ G m)
     → acted rule p P q q' F l ≡ acted rule p P q q' G l
 unfolding acted
-acted_ext rule p P q q' F G l same =
-    ap₂ (λ (x y : Entry). cond (all_set P l) (cond rule.mixes (cond (bit l q) (x ⊖ y) (x ⊕ y))
-    (cond rule.swaps (F (exchanged q q' l)) (moved rule p q F l))) (F l))
-    (same (set l q false) (length-set l q false)) (same (set l q true) (length-set l q true))
-    ∙ ap (λ (x : Entry). cond (all_set P l) (cond rule.mixes (mixed q G l) (cond rule.swaps x (moved rule p q F l))) (F l))
-    (same (exchanged q q' l) (length-set (set l q (bit l q')) q' (bit l q) ∙ length-set l q (bit l q')))
-    ∙ ap₂ (λ (x y : Entry). cond (all_set P l) (cond rule.mixes (mixed q G l) (cond rule.swaps (G (exchanged q q' l)) (turned (phase p (bit l q)) x))) y)
-    (taken rule.flips) (same l refl)
+acted_ext rule p P q q' F G l same = ap₂ (cond (all_set P l)) (by_act rule.act) (same l refl)
   where
-    taken : (flips : Bool) → F (cond flips (set l q (not (bit l q))) l) ≡ G (cond flips (set l q (not (bit l q))) l)
-    taken true = same (set l q (not (bit l q))) (length-set l q (not (bit l q)))
-    taken false = same l refl
+    by_act : (act : Act)
+        → cond (does_mix act) (mixed q F l)
+        (cond (does_swap act) (F (exchanged q q' l)) (turned (phase p (bit l q)) (F (cond (does_flip act) (set l q (not (bit l q))) l))))
+        ≡ cond (does_mix act) (mixed q G l)
+        (cond (does_swap act) (G (exchanged q q' l)) (turned (phase p (bit l q)) (G (cond (does_flip act) (set l q (not (bit l q))) l))))
+    by_act Keeps = ap (turned (phase p (bit l q))) (same l refl)
+    by_act Flips = ap (turned (phase p (bit l q))) (same (set l q (not (bit l q))) (length-set l q (not (bit l q))))
+    by_act Mixes =
+        ap₂ (λ (x y : Entry). cond (bit l q) (x ⊖ y) (x ⊕ y))
+        (same (set l q false) (length-set l q false)) (same (set l q true) (length-set l q true))
+    by_act Swaps = same (exchanged q q' l) (length-set (set l q (bit l q')) q' (bit l q) ∙ length-set l q (bit l q'))
 
 -- ---- a plan for a gate
 
@@ -127,14 +129,14 @@ side_apart : (side p q : ℕ) → side_level side p ≡ side_level side q → p 
 side_apart side p q e = omega arith
 
 -- what the gates' data say of their qubits: one that mixes names one qubit, and two targets are there just where it swaps
-kind_mixes : (g : Gate) → (gate_rule g).mixes ≡ true → (i : ℕ) → names g i ≡ true → target g ≡ i
+kind_mixes : (g : Gate) → does_mix (gate_rule g).act ≡ true → (i : ℕ) → names g i ≡ true → target g ≡ i
 kind_mixes (on k q) e i named = is_sound q i named
 kind_mixes (pair CNOT p q) e i named = absurd (true≢false (sym e))
 kind_mixes (pair CZ p q) e i named = absurd (true≢false (sym e))
 kind_mixes (toffoli mask q) e i named = absurd (true≢false (sym e))
 kind_mixes (fredkin mask p q) e i named = absurd (true≢false (sym e))
 
-swaps_two : (n : ℕ) (g : Gate) → Fits n g → (gate_rule g).swaps ≡ true → target g < second g
+swaps_two : (n : ℕ) (g : Gate) → Fits n g → does_swap (gate_rule g).act ≡ true → target g < second g
 swaps_two n (on k q) fits e = absurd (true≢false (sym e ∙ kind_alone k))
 swaps_two n (pair k p q) fits e = absurd (true≢false (sym e ∙ pair_alone k))
 swaps_two n (toffoli mask q) fits e = absurd (true≢false (sym e))
@@ -147,7 +149,7 @@ swaps_two n (fredkin mask p q) fits e = by_order (dec_lt p q)
         further : (p ≡ q → ⊥) → min p q < max p q
         further apart = omega arith
 
-keeps_one : (g : Gate) → (gate_rule g).swaps ≡ false → second g ≡ target g
+keeps_one : (g : Gate) → does_swap (gate_rule g).act ≡ false → second g ≡ target g
 keeps_one (on k q) e = refl
 keeps_one (pair k p q) e = refl
 keeps_one (toffoli mask q) e = refl
@@ -238,11 +240,11 @@ module _ (n : ℕ) (right : Bool) (g : Gate) (plan : Plan) (fits : Fits n g) (fo
       let all = for.levels_are in
       omega arith
 
-  first_of_two : plan.swaps ≡ true → plan.target < plan.second
+  first_of_two : does_swap plan.act ≡ true → plan.target < plan.second
   first_of_two e = by_order (dec_lt plan.target plan.second)
     where
       apart : target g < second g
-      apart = swaps_two n g fits (sym for.swaps_are ∙ e)
+      apart = swaps_two n g fits (ap does_swap (sym for.act_is) ∙ e)
 
       by_order : Dec (plan.target < plan.second) → plan.target < plan.second
       by_order (yes less) = less
@@ -255,19 +257,19 @@ module _ (n : ℕ) (right : Bool) (g : Gate) (plan : Plan) (fits : Fits n g) (fo
           by_more (yes after) = let rises = for.staged.ascend plan.second plan.target after for.target_in in absurd (omega (arith, at))
           by_more (no same) = let one : plan.target ≡ plan.second = omega arith in absurd (omega (arith, at, ap plan.stage one))
 
-  one_target : plan.swaps ≡ false → plan.second ≡ plan.target
+  one_target : does_swap plan.act ≡ false → plan.second ≡ plan.target
   one_target e =
       one_stage plan.second plan.target for.second_in for.target_in
-      (for.second_at ∙ ap (side_level (as_number right)) (keeps_one g (sym for.swaps_are ∙ e)) ∙ sym for.target_at)
+      (for.second_at ∙ ap (side_level (as_number right)) (keeps_one g (ap does_swap (sym for.act_is) ∙ e)) ∙ sym for.target_at)
 
   -- a gate that mixes has one stage
-  alone : plan.mixes ≡ true → plan.stages ≡ 1
+  alone : does_mix plan.act ≡ true → plan.stages ≡ 1
   alone e = by_more (dec_lt 1 plan.stages)
     where
       at_target : (k : ℕ) → k < plan.stages → plan.stage k ≡ side_level (as_number right) (target g)
       at_target k h =
           let named = for.staged.each_named k h in
-          named.2 ∙ ap (side_level (as_number right)) (sym (kind_mixes g (sym for.mixes_are ∙ e) named.0 named.1))
+          named.2 ∙ ap (side_level (as_number right)) (sym (kind_mixes g (ap does_mix (sym for.act_is) ∙ e) named.0 named.1))
 
       by_more : Dec (1 < plan.stages) → plan.stages ≡ 1
       by_more (yes more) =
@@ -278,7 +280,7 @@ module _ (n : ℕ) (right : Bool) (g : Gate) (plan : Plan) (fits : Fits n g) (fo
   valid_for M is_zero =
       let 𝓡 = diagram_reduced n M in
       let (a, b, c, d) = rule_small g in
-      let small = chosen_phases (gate_rule g).mixes right (gate_rule g).left (gate_rule g).right a b c d in
+      let small = chosen_phases (does_mix (gate_rule g).act) right (gate_rule g).left (gate_rule g).right a b c d in
       record {
         levels_below = λ i h. let up_to_lem = 𝓡.reduced.tidy.levels_below i h in let all = for.levels_are in omega arith;
         levels_rise = 𝓡.reduced.tidy.levels_rise;
@@ -374,8 +376,7 @@ module _ (n : ℕ) (right : Bool) (g : Gate) (M : Matrix) (plan : Plan) (fits : 
       (sub-zero (plan.stage plan.second) ∙ for.second_at ∙ side_level_is right (second g)) ⟩
       act t t' (reached 𝟘 source 0 root) l
       ≡⟨ acted_alike (plan_rule plan) rule plan.phases side (control plan) t t' (reached 𝟘 source 0 root) l
-      for.mixes_are for.flips_are for.swaps_are
-      (λ moves. for.phases_are ∙ side_phases_is right rule.mixes rule.left rule.right moves ∙ on_side right rule) ⟩
+      for.act_is (λ moves. for.phases_are ∙ side_phases_is right (does_mix rule.act) rule.left rule.right moves ∙ on_side right rule) ⟩
       acted rule side (control plan) t t' (reached 𝟘 source 0 root) l
       ≡⟨ acted_ext rule side (control plan) t t' (reached 𝟘 source 0 root) (entries M) l (λ m e. (diagram_reduced n M).gives m (e ∙ size)) ⟩
       acted rule side (control plan) t t' (entries M) l

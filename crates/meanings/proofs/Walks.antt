@@ -59,7 +59,8 @@ module _ (plan : Plan) (s : Store Entry) (valid : ValidPlan plan s) where
 
   -- an operation on the entries by level that passes over a bit that does not count
   abbrev Skips : {R : Type 0} → (ℕ → ℕ → (Bits → Entry) → R) → Type 0
-  Skips Φ = (left level : ℕ) (f g : Bits → Entry) → ((b : Bool) (l : Bits) → length l ≡ left → f (b ∷ l) ≡ g l) → Φ (suc left) level f ≡ Φ left (suc level) g
+  Skips Φ = (left level : ℕ) (f g : Bits → Entry) → ((b : Bool) (l : Bits) → length l ≡ left → f (b ∷ l) ≡ g l)
+      → Φ (suc left) level f ≡ Φ left (suc level) g
 
   module _ {R : Type 0} (Φ : ℕ → ℕ → (Bits → Entry) → R) (skips : Skips Φ) (σ : State) where
     abbrev over : ℕ → R
@@ -119,7 +120,8 @@ module _ (plan : Plan) (s : Store Entry) (valid : ValidPlan plan s) where
     half_means b l = meaning_next plan s valid (top plan s σ) asks b l σ (valid_at_top σ ok)
 
     half_made : (b : Bool) (t : Store Entry)
-        → reduce same_entry (plan.levels - suc (top plan s σ)) (suc (top plan s σ)) (λ l. meaning plan s (top plan s σ) σ (b ∷ l)) t ≡ made plan s (then b) t
+        → reduce same_entry (plan.levels - suc (top plan s σ)) (suc (top plan s σ)) (λ l. meaning plan s (top plan s σ) σ (b ∷ l)) t
+        ≡ made plan s (then b) t
     half_made b t =
         reduce_ext same_entry (plan.levels - suc (top plan s σ)) (suc (top plan s σ)) (λ l. meaning plan s (top plan s σ) σ (b ∷ l))
         (meaning plan s (suc (top plan s σ)) (then b)) t (λ l e. half_means b l)

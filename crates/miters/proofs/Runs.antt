@@ -52,7 +52,8 @@ everywhere_all (suc k) test e (b ∷ l) h = everywhere_all k (λ m. test (b ∷ 
 all_everywhere : (k : ℕ) (test : Bits → Bool) → ((l : Bits) → length l ≡ k → test l ≡ true) → everywhere k test ≡ true
 all_everywhere zero test all = all [] refl
 all_everywhere (suc k) test all = true_both
-    (all_everywhere k (λ m. test (false ∷ m)) (λ l h. all (false ∷ l) (ap suc h))) (all_everywhere k (λ m. test (true ∷ m)) (λ l h. all (true ∷ l) (ap suc h)))
+    (all_everywhere k (λ m. test (false ∷ m)) (λ l h. all (false ∷ l) (ap suc h)))
+    (all_everywhere k (λ m. test (true ∷ m)) (λ l h. all (true ∷ l) (ap suc h)))
 
 pub in_width_iff : (lent : Lent) (n : ℕ) (M : Matrix)
     → (in_width lent n M ≡ true) ↔ ((r c : Bits) → length r ≡ n → length c ≡ n → entry_in_width lent.width (M r c) ≡ true)
@@ -105,9 +106,11 @@ module _ (lent : Lent) (n : ℕ) where
     follow_on wide room = rw (wide, room)
 
     follows_step : (a b : Bool) → in_width lent n next.entries ≡ a → has_room lent n next.entries ≡ b
-        → Follows lent n (suc before) next ss (follow lent n (suc before) ss next) → Follows lent n before M (s ∷ ss) (follow lent n before (s ∷ ss) M)
+        → Follows lent n (suc before) next ss (follow lent n (suc before) ss next)
+        → Follows lent n before M (s ∷ ss) (follow lent n before (s ∷ ss) M)
     follows_step false b wide room onward = subst (Follows lent n before M (s ∷ ss))
-        (ap (λ (i : ℕ). stopped (at_step OutsideWidth i)) (add-zero before) ∙ sym (follow_too_wide wide)) (too_wide 0 (omega arith) (pass_none M (s ∷ ss)) wide)
+        (ap (λ (i : ℕ). stopped (at_step OutsideWidth i)) (add-zero before) ∙ sym (follow_too_wide wide))
+        (too_wide 0 (omega arith) (pass_none M (s ∷ ss)) wide)
     follows_step true false wide room onward = subst (Follows lent n before M (s ∷ ss))
         (ap (λ (i : ℕ). stopped (at_step NoRoom i)) (add-zero before) ∙ sym (follow_too_full wide room))
         (too_full 0 (omega arith) (pass_none M (s ∷ ss)) wide room)
@@ -190,7 +193,8 @@ steps_length s us vs e =
 
 -- ---- the used part of the first store
 
-used_column : {A B : Type 0} (nought : B) (N : ℕ) (f : A → B) (l : List A) → take (length l) (column nought N (map f l)) ≡ column nought (length l) (map f l)
+used_column : {A B : Type 0} (nought : B) (N : ℕ) (f : A → B) (l : List A)
+    → take (length l) (column nought N (map f l)) ≡ column nought (length l) (map f l)
 used_column nought N f l =
     let len : length (map f l) ≡ length l = length-map l f in
     let none_left : length l - length (map f l) ≡ 0 = omega arith in
@@ -223,7 +227,8 @@ answered_unstopped lent n e answered r is = answered r (ap (λ (x : Ended). (out
 
 -- its outcome is the miter's
 pub judged_miter : (lent : Lent) (n : ℕ) (s : List ℕ) (us vs : List Gate) (first second : Columns) → fits (length us) (length vs) s ≡ true
-    → Answered (judged lent n s us vs first second) → judged lent n s us vs first second ≡ outcome lent n (done (length us + length vs) (miter n us vs))
+    → Answered (judged lent n s us vs first second)
+    → judged lent n s us vs first second ≡ outcome lent n (done (length us + length vs) (miter n us vs))
 unfolding judged
 judged_miter lent n s us vs first second fit answered =
     let ss = steps s us vs in

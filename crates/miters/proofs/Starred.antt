@@ -57,7 +57,8 @@ two u v = record { width = 32; qubits = 2; u = u; v = v }
 -- ---- the list
 
 abbrev finishes : Verdict → ℕ → ℕ → ℕ → ℕ → Answer
-finishes verdict exponent steps nodes values = reports (record { verdict = verdict; exponent = exponent; steps = steps; nodes = nodes; values = values })
+finishes verdict exponent steps nodes values =
+    reports (record { verdict = verdict; exponent = exponent; steps = steps; nodes = nodes; values = values })
 
 abbrev stops : StepFault → ℕ → Answer
 stops fault steps = reports (record { verdict = Refused (Step fault steps); exponent = 0; steps = 0; nodes = 0; values = 0 })
@@ -109,5 +110,6 @@ circuits =
     ∷ []
 
 pub starred : map (λ row. answer row.0) circuits ≡ map (λ row. row.1) circuits
-unfolding judged ended finished refused verdict used held cleared reduce start stepped product total identity matrix number_in_width 𝟘 𝟙 neg ◌⊕◌ ◌⊗◌ times_w8 turned
+unfolding judged ended finished refused verdict used held cleared reduce start stepped product total identity matrix number_in_width
+    𝟘 𝟙 neg ◌⊕◌ ◌⊗◌ times_w8 turned
 starred = refl

@@ -2,7 +2,9 @@
 #![tactic(auto)]
 
 ghost use Rattle.std.specs.Prelude.{◌≡◌};
+ghost use Rattle.stores.specs.Columns.{columns_of};
 ghost use Rattle.pairs.specs.Pair.{gate_count, along_report, lists_report};
+ghost use Rattle.pairs.specs.Lent.{columns_in};
 
 use miters::Report;
 use stores::Store;
@@ -21,49 +23,71 @@ const STEPS: usize = 8192;
 fn count_gates(list: &[u8]) -> u32
     ensures { result ≡ gate_count list.now }
 {
-    match lists::check_list(list, circuits::base_limits()) {
-        Ok(head) => head.gates,
-        Err(_) => 0,
+    lists::check_list(list, circuits::base_limits()).map_or(0, |head| head.gates)
+}
+
+// The arrays of a store of the programs' sizes.
+#[derive(Clone, Copy)]
+struct Arrays {
+    level: [u32; NODES],
+    low: [u32; NODES],
+    high: [u32; NODES],
+    a: [i32; VALUES],
+    b: [i32; VALUES],
+    c: [i32; VALUES],
+    d: [i32; VALUES],
+}
+
+const EMPTY: Arrays = Arrays {
+    level: [0; NODES],
+    low: [0; NODES],
+    high: [0; NODES],
+    a: [0; VALUES],
+    b: [0; VALUES],
+    c: [0; VALUES],
+    d: [0; VALUES],
+};
+
+impl Arrays {
+    // The store that borrows them.
+    fn store(&mut self) -> Store<'_>
+        ensures { columns_of result ≡ columns_in self.old }
+    {
+        let Arrays {
+            level,
+            low,
+            high,
+            a,
+            b,
+            c,
+            d,
+        } = self;
+        Store {
+            level,
+            low,
+            high,
+            a,
+            b,
+            c,
+            d,
+        }
     }
 }
 
-// The report on two lists along a schedule, in stores of the program's sizes.
+// The report on two lists along a schedule, which come apart as the call takes them, in stores of the program's sizes.
 fn judge_along(u: &[u8], v: &[u8], schedule: &[u8]) -> Report
     ensures { result ≡ along_report u.now v.now schedule.now }
 {
-    let mut level = [0; NODES];
-    let mut low = [0; NODES];
-    let mut high = [0; NODES];
-    let mut a = [0; VALUES];
-    let mut b = [0; VALUES];
-    let mut c = [0; VALUES];
-    let mut d = [0; VALUES];
-    let mut other_level = [0; NODES];
-    let mut other_low = [0; NODES];
-    let mut other_high = [0; NODES];
-    let mut other_a = [0; VALUES];
-    let mut other_b = [0; VALUES];
-    let mut other_c = [0; VALUES];
-    let mut other_d = [0; VALUES];
-    let mut first = Store {
-        level: &mut level,
-        low: &mut low,
-        high: &mut high,
-        a: &mut a,
-        b: &mut b,
-        c: &mut c,
-        d: &mut d,
-    };
-    let mut second = Store {
-        level: &mut other_level,
-        low: &mut other_low,
-        high: &mut other_high,
-        a: &mut other_a,
-        b: &mut other_b,
-        c: &mut other_c,
-        d: &mut other_d,
-    };
-    judges::judge(u, v, schedule, WIDTH, &mut first, &mut second)
+    let mut first = EMPTY;
+    let mut second = EMPTY;
+    judges::judge(
+        u,
+        v,
+        schedule,
+        WIDTH,
+        &mut first.store(),
+        &mut second.store(),
+    )
 }
 
 // The report on two lists along their proportional schedule.

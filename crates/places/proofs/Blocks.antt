@@ -145,7 +145,8 @@ module _ (task : Task) (q : ℕ) (f : Bits → ℕ) where
       let h = length_halves q l e in
       ap (λ (t : Bool). not (allows task t (f l))) (onward_eqb x y (rows l) (columns l) (h.0 ∙ sym h.1))
 
-  pub nowhere_again : (x y x' y' : ℕ) → eqb x y ≡ eqb x' y' → sought found_at task (levels q) f x y ≡ None → sought found_at task (levels q) f x' y' ≡ None
+  pub nowhere_again : (x y x' y' : ℕ) → eqb x y ≡ eqb x' y'
+      → sought found_at task (levels q) f x y ≡ None → sought found_at task (levels q) f x' y' ≡ None
   nowhere_again x y x' y' agree e =
       none_nowhere task (levels q) f x' y'
       (lowest_ext (levels q) (forbids_from task f x' y') (forbids_from task f x y) alike ∙ nowhere_none task (levels q) f x y e)

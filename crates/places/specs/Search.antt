@@ -1,11 +1,13 @@
 -- The search for the lowest place that forbids equality, from a place of the diagram on. Definitions only; that it comes to the
 -- verdict is in searches/proofs/Verdicts.antt.
-use Rattle.std.specs.Prelude.{Bool, false, cond, not, List, [], ◌∷◌, ℕ, ◌+◌, ◌*◌, ◌-◌, eqb, Option, Some, None}
+use Rattle.std.specs.Prelude.{Bool, false, cond, not, [], ◌∷◌, ℕ, ◌+◌, ◌*◌, ◌-◌, eqb, Option, Some, None}
 use Rattle.std.specs.Option.{option_eq}
 use Rattle.std.proofs.Math.Option.{Option as Lowest, none, some}
 use Rattle.algebra.specs.Matrix.{Bits}
 use Rattle.diagrams.specs.Diagram.{rows, columns}
 use Rattle.miters.specs.Report.{lowest}
+use Rattle.stores.specs.declared.Nodes.{Nodes}
+use Rattle.places.specs.declared.Block.{Block}
 use Rattle.places.specs.declared.Place.{Place}
 use Rattle.places.specs.declared.Task.{Task}
 use Rattle.cofactors.specs.Slots.{cofactor, landing}
@@ -43,27 +45,37 @@ found_from at f x y (some l) = at (onward x (rows l)) (onward y (columns l)) (f 
 unfoldable pub sought : (ℕ → ℕ → ℕ → Option Place) → Task → ℕ → (Bits → ℕ) → ℕ → ℕ → Option Place
 sought at task k f x y = found_from at f x y (lowest k (forbids_from task f x y))
 
--- ---- in the columns
+-- ---- in a block
 
-module _ (level low high : List ℕ) (task : Task) where
-  -- the references behind a reference, by the bits of the levels left
-  abbrev pub behind : ℕ → ℕ → Bits → ℕ
-  behind left r = landing level low high (task.levels - left) r
+module _ (nodes : Nodes) (task : Task) where
+  -- the references behind a block's root, by the bits of the levels left
+  abbrev pub behind : Block → Bits → ℕ
+  behind block = landing nodes.level.now nodes.low.now nodes.high.now (task.levels - block.left) block.root
 
-  -- the child of a reference by the bit of the first of them
-  abbrev pub child : ℕ → Bool → ℕ → ℕ
-  child left b r = cofactor level low high (task.levels - left) b r
+  -- the half of a block by its first bit; its own first bit is one of the other number
+  abbrev pub half : Block → Bool → Block
+  half block b = record {
+    left = block.left - 1;
+    root = cofactor nodes.level.now nodes.low.now nodes.high.now (task.levels - block.left) b block.root;
+    next = block.after;
+    after = cond b (2 * block.next + 1) (2 * block.next);
+  }
 
-  -- from the question about a row bit on
-  abbrev pub row_sought : ℕ → ℕ → ℕ → ℕ → Option Place
-  row_sought left r row column = sought found_at task left (behind left r) row column
+  -- what is found in a block
+  abbrev pub sought_in : (ℕ → ℕ → ℕ → Option Place) → Block → Option Place
+  sought_in at block = sought at task block.left (behind block) block.next block.after
 
-  -- from the question about a column bit on
-  abbrev pub column_sought : ℕ → ℕ → ℕ → ℕ → Option Place
-  column_sought left r row column = sought (λ y x v. found_at x y v) task left (behind left r) column row
+  -- where its first bit is one of the row
+  abbrev pub row_sought : Block → Option Place
+  row_sought = sought_in found_at
+
+  -- where its first bit is one of the column
+  abbrev pub column_sought : Block → Option Place
+  column_sought = sought_in (λ y x v. found_at x y v)
 
 -- ---- where the search ends
 
 -- off the diagonal at the zero terminal, at a place on it at the corner's value
-abbrev pub is_settled : Task → ℕ → ℕ → ℕ → ℕ → Bool
-is_settled task left r row column = cond (eqb row column) (cond (eqb left 0) (eqb r task.corner) false) (is_zero task.zero r)
+abbrev pub is_settled : Task → Block → Bool
+is_settled task block =
+    cond (eqb block.next block.after) (cond (eqb block.left 0) (eqb block.root task.corner) false) (is_zero task.zero block.root)

@@ -2,13 +2,15 @@
 // They are two functions, since the paper names that form for this place.
 #![tactic(auto)]
 
-ghost use Rattle.std.specs.Prelude.{◌≡◌};
-ghost use Rattle.places.specs.Search.{is_settled, row_sought, column_sought};
-ghost use Rattle.places.specs.Ready.{RowReady, ColumnReady};
+ghost use Rattle.std.specs.Prelude.{◌≡◌, ◌<◌};
+ghost use Rattle.places.specs.Search.{is_settled, half, row_sought, column_sought};
+ghost use Rattle.places.specs.Ready.{Ready, RowReady, ColumnReady};
 
-use stores::View;
+use stores::Nodes;
 
-// What is searched: the used nodes, the levels, and the references to the corner's value and, if there is one, to zero.
+// What is searched: the used nodes, the levels, and the references to the corner's value and, if there is one, to zero. The nodes are for the
+// contracts alone, which say that each reference met is to one of them; they are no ghost field, since those of a plain struct state facts
+// and hold no numbers.
 #[derive(Clone, Copy)]
 pub struct Task {
     pub nodes: u32,
@@ -25,75 +27,86 @@ pub struct Place {
     pub value: u32,
 }
 
-// Nothing is to be sought behind r: off the diagonal it is the zero terminal, or at a place on it the corner's value.
-fn settled(task: Task, left: u32, r: u32, row: u32, column: u32) -> bool
-    ensures { result ≡ is_settled task left r row column }
-{
-    if row != column {
-        return task.zero == Some(r);
-    }
-    left == 0 && r == task.corner
+// A block of the diagram: what is behind the reference `root`, with so many levels left. One of `next` and `after` has the bits of the row
+// before it, the other those of the column; its first bit is one of `next`, and then the two take turns. It is on the diagonal if they are
+// one number.
+#[derive(Clone, Copy)]
+pub struct Block {
+    pub left: u32,
+    pub root: u32,
+    pub next: u32,
+    pub after: u32,
 }
 
-// The lowest place behind r from the question about a row bit on, with so many levels left. The bits before it are those of `row`
-// and `column`; the place is on the diagonal if they are one number.
+impl Block {
+    // Nothing is to be sought in it: off the diagonal it is the zero terminal, or at a place on it the corner's value.
+    fn settled(self, task: Task) -> bool
+        ensures { result ≡ is_settled task self }
+    {
+        if self.next != self.after {
+            return task.zero == Some(self.root);
+        }
+        self.left == 0 && self.root == task.corner
+    }
+
+    // Its half by its first bit.
+    fn half(self, nodes: &Nodes<'_>, task: Task, bit: bool) -> Block
+        requires { Ready nodes.now task self × (0 < self.left) }
+        ensures { result ≡ half nodes.now task self bit }
+    {
+        Block {
+            left: self.left - 1,
+            root: cofactors::child(nodes, task.levels - self.left, bit, self.root),
+            next: self.after,
+            after: 2 * self.next + u32::from(bit),
+        }
+    }
+}
+
+// The lowest place in a block whose first bit is one of the row.
 //
 // A block off the diagonal is searched only where it is not zero, so it is one way down. On the diagonal the high block is not
 // searched where it is the low one, in which nothing was found; where it is another, it has a place that forbids, since a
 // reduced diagram has one reference for a block. So a level costs one clean way down at the most, beside the search that goes on.
+//
+// What is found in the low half is returned by hand: in an or_else the closure would be one of the functions that call each other, with a
+// contract and a measure of its own, which are longer than what they replace.
 #[cycle(ask_column_ask_row)]
-pub fn ask_row(
-    store: &View<'_>,
-    task: Task,
-    left: u32,
-    r: u32,
-    row: u32,
-    column: u32,
-) -> Option<Place>
-    requires { RowReady store.now.level.now store.now.low.now store.now.high.now task left r row column }
-    ensures { result ≡ row_sought store.now.level.now store.now.low.now store.now.high.now task left r row column }
+pub fn ask_row(nodes: &Nodes<'_>, task: Task, block: Block) -> Option<Place>
+    requires { RowReady nodes.now task block }
+    ensures { result ≡ row_sought nodes.now task block }
 {
-    if settled(task, left, r, row, column) {
+    if block.settled(task) {
         return None;
     }
-    if left == 0 {
+    if block.left == 0 {
         return Some(Place {
-            row,
-            column,
-            value: r,
+            row: block.next,
+            column: block.after,
+            value: block.root,
         });
     }
-    let asked = task.levels - left;
-    let below = left - 1;
-    let s = cofactors::look(store, r, asked);
-    if let Some(place) = ask_column(store, task, below, s.low, None, 2 * row, column) {
+    let low = block.half(nodes, task, false);
+    if let Some(place) = ask_column(nodes, task, low, None) {
         return Some(place);
     }
-    let clean = cofactors::look(store, s.low, asked + 1).low;
-    ask_column(store, task, below, s.high, Some(clean), 2 * row + 1, column)
+    let clean = low.half(nodes, task, false).root;
+    ask_column(nodes, task, block.half(nodes, task, true), Some(clean))
 }
 
-// The same from the question about a column bit on. Nothing is found on the high side if that is the reference `clean`.
+// The same where the first bit is one of the column. Nothing is found in the high half if its root is `clean`.
 #[cycle(ask_column_ask_row)]
-fn ask_column(
-    store: &View<'_>,
-    task: Task,
-    left: u32,
-    r: u32,
-    clean: Option<u32>,
-    row: u32,
-    column: u32,
-) -> Option<Place>
-    requires { ColumnReady store.now.level.now store.now.low.now store.now.high.now task left r clean row column }
-    ensures { result ≡ column_sought store.now.level.now store.now.low.now store.now.high.now task left r row column }
+fn ask_column(nodes: &Nodes<'_>, task: Task, block: Block, clean: Option<u32>) -> Option<Place>
+    requires { ColumnReady nodes.now task block clean }
+    ensures { result ≡ column_sought nodes.now task block }
 {
-    let below = left - 1;
-    let s = cofactors::look(store, r, task.levels - left);
-    if let Some(place) = ask_row(store, task, below, s.low, row, 2 * column) {
+    let low = block.half(nodes, task, false);
+    if let Some(place) = ask_row(nodes, task, low) {
         return Some(place);
     }
-    if clean == Some(s.high) {
+    let high = block.half(nodes, task, true);
+    if clean == Some(high.root) {
         return None;
     }
-    ask_row(store, task, below, s.high, row, 2 * column + 1)
+    ask_row(nodes, task, high)
 }

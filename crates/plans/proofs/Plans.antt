@@ -13,17 +13,17 @@ use lib.ListN.{length, get_or, set, length-set, replicate, length-replicate}
 use lib.Seq.{get_or-set_same, get_or-set_other, sets}
 use Rattle.std.specs.Prelude.{Option}
 use Rattle.gates.specs.declared.Rule.{Rule}
-use Rattle.gates.specs.Gate.{Kind, X, Y, Z, H, S, S†, T, T†, CNOT, CZ, Gate, on, pair, toffoli, fredkin, is, in_mask, names, Fits}
-use Rattle.gates.specs.Rule.{kind_rule, gate_rule, target, second}
+use Rattle.stores.specs.declared.Used.{Used}
+use Rattle.gates.specs.Gate.{Gate, on, pair, toffoli, fredkin, is, in_mask, names, Fits}
+use Rattle.gates.specs.Rule.{target, second}
 use Rattle.gates.proofs.Naming.{is_refl, is_sound, is_apart, either}
 use Rattle.gates.proofs.Masks.{in_no_mask, mask_below, in_mask_add}
 use Rattle.diagrams.proofs.Places.{levels_double}
-use Rattle.transitions.specs.Plan.{Plan, plan_of, does_mix, does_swap}
-use Rattle.plans.specs.Prepare.{as_number, side_of, side_number, side_level, side_phases, action_of, named_mask, levels_from, stage_levels}
+use Rattle.transitions.specs.Plan.{Plan, plan_of}
+use Rattle.plans.specs.Prepare.{as_number, side_of, side_number, side_level, side_phases, named_mask, levels_from, stage_levels}
 use Rattle.plans.specs.Prepare.{StagedAs, PlanFor}
 use Rattle.plans.specs.declared.Action.{Action}
 use Rattle.plans.specs.declared.Sizes.{Sizes}
-use Rattle.plans.specs.declared.Used.{Used}
 use Rattle.plans.specs.Layout.{Acts, planned}
 use Rattle.plans.proofs.Staging.{length_levels, levels_ascend, levels_named, levels_at}
 
@@ -65,27 +65,6 @@ module _ {A : Type 0} (d : A) where
       shift i k = omega arith
 
 -- ---- the plan is for the gate
-
--- a rule that mixes swaps nothing
-abbrev Apart : Rule → Type 0
-Apart rule = (does_mix (action_of rule) ≡ rule.mixes) × (does_swap (action_of rule) ≡ rule.swaps)
-
-kind_apart : (k : Kind) → Apart (kind_rule k)
-kind_apart X = (refl, refl)
-kind_apart Y = (refl, refl)
-kind_apart Z = (refl, refl)
-kind_apart H = (refl, refl)
-kind_apart S = (refl, refl)
-kind_apart S† = (refl, refl)
-kind_apart T = (refl, refl)
-kind_apart T† = (refl, refl)
-
-gate_apart : (g : Gate) → Apart (gate_rule g)
-gate_apart (on k q) = kind_apart k
-gate_apart (pair CNOT p q) = (refl, refl)
-gate_apart (pair CZ p q) = (refl, refl)
-gate_apart (toffoli mask q) = (refl, refl)
-gate_apart (fredkin mask p q) = (refl, refl)
 
 -- a gate names its targets, and no qubit past the count
 or_right : (a : Bool) {b : Bool} → b ≡ true → (a || b) ≡ true
@@ -207,9 +186,7 @@ module _ (n : ℕ) (right : Bool) (g : Gate) (action : Action) (sizes : Sizes) (
   unfolding planned
   planned_for = record {
     levels_are = sym (levels_double n);
-    flips_are = ap (λ (r : Rule). r.flips) acts.rule;
-    mixes_are = ap (λ (r : Rule). does_mix (action_of r)) acts.rule ∙ (gate_apart g).0;
-    swaps_are = ap (λ (r : Rule). does_swap (action_of r)) acts.rule ∙ (gate_apart g).1;
+    act_is = ap (λ (r : Rule). r.act) acts.rule;
     phases_are = ap₂ side_phases side_is acts.rule;
     staged = staged;
     target_in = subst (λ (k : ℕ). k < plan.stages) (sym target_is) (stage_of (target g) (named_targets g).0).0;

@@ -65,7 +65,8 @@ levels_ascend (suc fuel) level mask j k less h =
     by_bit (eqb (mask % 2) 1) j k less h (levels_least fuel (level + 2) (mask / 2)) (levels_ascend fuel (level + 2) (mask / 2))
   where
     by_bit : (b : Bool) (j k : ℕ) → j < k → k < length (from_first b level (later fuel level mask)) → AtLeast (level + 2) (later fuel level mask)
-        → Ascends (later fuel level mask) → get_or (from_first b level (later fuel level mask)) j 0 < get_or (from_first b level (later fuel level mask)) k 0
+        → Ascends (later fuel level mask)
+        → get_or (from_first b level (later fuel level mask)) j 0 < get_or (from_first b level (later fuel level mask)) k 0
     by_bit true j zero less h least below = absurd (omega arith)
     by_bit true zero (suc k) less h least below = omega (arith, least k (omega arith))
     by_bit true (suc j) (suc k) less h least below = below j k (omega arith) (omega arith)
@@ -121,7 +122,8 @@ levels_at zero level mask q h e = absurd (none (mask_below 0 mask q h e))
 levels_at (suc fuel) level mask zero h e =
     rw (mod-one mask, sym (in_mask_first mask) ∙ e) (omega arith, omega arith)
 levels_at (suc fuel) level mask (suc q) h e =
-    rw (below_step mask q) (by_bit (eqb (mask % 2) 1) refl (levels_at fuel (level + 2) (mask / 2) q (halved fuel mask h) (sym (in_mask_later mask q) ∙ e)))
+    rw (below_step mask q) (by_bit (eqb (mask % 2) 1) refl
+    (levels_at fuel (level + 2) (mask / 2) q (halved fuel mask h) (sym (in_mask_later mask q) ∙ e)))
   where
     by_bit : (b : Bool) → eqb (mask % 2) 1 ≡ b → Stands (later fuel level mask) (ones (mask / 2 % 2 ^ q)) (level + 2 + 2 * q)
         → Stands (from_first b level (later fuel level mask)) (mask % 2 + ones (mask / 2 % 2 ^ q)) (level + 2 * suc q)

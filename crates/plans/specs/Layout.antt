@@ -3,15 +3,15 @@ use Rattle.std.specs.Prelude.{◌≡◌, Bool, cond, ◌||◌, Option, ℕ, ◌+
 use Rattle.std.specs.Int.Count.{ones}
 use Rattle.gates.specs.declared.Rule.{Rule}
 use Rattle.gates.specs.Gate.{Gate, Fits}
-use Rattle.gates.specs.Rule.{gate_rule, target, second}
+use Rattle.gates.specs.Rule.{does_mix, does_swap, gate_rule, target, second}
+use Rattle.stores.specs.declared.Used.{Used}
 use Rattle.stores.specs.Columns.{zeroed}
 use Rattle.transitions.specs.declared.Plan.{Plan}
 use Rattle.transitions.specs.Plan.{plan_of}
-use Rattle.plans.specs.Prepare.{side_of, side_number, side_phases, named_mask, action_of, stage_levels}
+use Rattle.plans.specs.Prepare.{side_of, side_number, side_phases, named_mask, stage_levels}
 use Rattle.tables.specs.Table.{TableFits, table_end, table_size, cleared}
 use Rattle.plans.specs.declared.Action.{Action}
 use Rattle.plans.specs.declared.Sizes.{Sizes}
-use Rattle.plans.specs.declared.Used.{Used}
 use Rattle.plans.specs.declared.Scratch.{Scratch}
 
 -- ---- the gate
@@ -30,11 +30,8 @@ pub record Acts (n : ℕ) (right : Bool) (g : Gate) (action : Action) : Type 0 w
 -- ---- the plan
 
 -- how many nodes the computed table is sized for: a gate that mixes or swaps makes pairs of references, several for a node of the source
-abbrev pub pairs : Rule → Bool
-pairs rule = rule.mixes || rule.swaps
-
-abbrev pub paired : Bool → ℕ → ℕ
-paired pairs nodes = cond pairs (4 * nodes) nodes
+abbrev pub counted : Rule → ℕ → ℕ
+counted rule nodes = cond (does_mix rule.act || does_swap rule.act) (4 * nodes) nodes
 
 -- a gate's part of it, by its data, the mask of its qubits and its targets, the lower one first: the stages, and which of them are the
 -- targets', as many as qubits are named below them; then the source's zero, the heads of the unique tables and the slots of the computed
@@ -45,13 +42,12 @@ planned action n sizes used zero = record {
   stage_count = ones action.named;
   target = ones (action.named % 2 ^ action.low);
   second = ones (action.named % 2 ^ action.high);
-  flips = action.rule.flips;
-  act = action_of action.rule;
+  act = action.rule.act;
   phases = side_phases (side_number action.side) action.rule;
   zero = zero;
   node_heads = table_size used.nodes 64 sizes.heads;
   value_heads = table_size used.values 16 sizes.heads;
-  slots = table_size (paired (pairs action.rule) used.nodes) 64 sizes.slots;
+  slots = table_size (counted action.rule used.nodes) 64 sizes.slots;
   width = sizes.width;
   levels = 2 * n;
   span = 2 * max used.nodes used.values;

@@ -5,10 +5,8 @@ use Rattle.algebra.specs.Matrix.{Matrix, product}
 use Rattle.gates.specs.declared.Phases.{Phases}
 use Rattle.gates.specs.declared.Rule.{Rule}
 use Rattle.gates.specs.Gate.{Gate, on, pair, toffoli, fredkin, names, matrix}
-use Rattle.gates.specs.Rule.{phases, gate_rule, target, second}
+use Rattle.gates.specs.Rule.{phases, does_mix, gate_rule, target, second}
 use Rattle.diagrams.specs.Diagram.{levels}
-use Rattle.transitions.specs.declared.Act.{Act}
-use Rattle.transitions.specs.declared.Act.TheVariants.{Moves, Mixes, Swaps}
 use Rattle.transitions.specs.Plan.{Plan}
 use Rattle.plans.specs.declared.Side.{Side}
 use Rattle.plans.specs.declared.Side.TheVariants.{Left, Right}
@@ -33,11 +31,7 @@ side_level side q = 2 * q + side
 
 -- the powers of w8 by the target's bit; a gate that mixes leaves x or −x where the other reference is the zero
 abbrev pub side_phases : ℕ → Rule → Phases
-side_phases side rule = cond rule.mixes (phases 0 4) (cond (eqb side 1) rule.right rule.left)
-
--- what a gate does at its target: it moves an entry, or mixes two, or swaps its targets
-abbrev pub action_of : Rule → Act
-action_of rule = cond rule.mixes Mixes (cond rule.swaps Swaps Moves)
+side_phases side rule = cond (does_mix rule.act) (phases 0 4) (cond (eqb side 1) rule.right rule.left)
 
 -- ---- the qubits that a gate names, as a mask
 
@@ -50,7 +44,8 @@ named_mask (fredkin mask p q) = mask + 2 ^ p + 2 ^ q
 -- the levels of the qubits that a mask names, lowest first, where the mask's lowest bit is for the qubit at this level
 unfoldable pub levels_from : ℕ → ℕ → ℕ → List ℕ
 levels_from zero level rest = []
-levels_from (suc fuel) level rest = cond (eqb (rest % 2) 1) (level ∷ levels_from fuel (level + 2) (rest / 2)) (levels_from fuel (level + 2) (rest / 2))
+levels_from (suc fuel) level rest =
+    cond (eqb (rest % 2) 1) (level ∷ levels_from fuel (level + 2) (rest / 2)) (levels_from fuel (level + 2) (rest / 2))
 
 -- in the sixteen slots that a plan has for them
 unfoldable pub stage_levels : ℕ → ℕ → List ℕ
@@ -72,9 +67,7 @@ pub record StagedAs (side : ℕ) (named : ℕ → Bool) (plan : Plan) : Type 0 w
 
 pub record PlanFor (n : ℕ) (right : Bool) (g : Gate) (plan : Plan) : Type 0 where
   pub levels_are : plan.levels ≡ levels n
-  pub flips_are : plan.flips ≡ (gate_rule g).flips
-  pub mixes_are : plan.mixes ≡ (gate_rule g).mixes
-  pub swaps_are : plan.swaps ≡ (gate_rule g).swaps
+  pub act_is : plan.act ≡ (gate_rule g).act
   pub phases_are : plan.phases ≡ side_phases (as_number right) (gate_rule g)
   pub staged : StagedAs (as_number right) (names g) plan
   pub target_in : plan.target < plan.stages

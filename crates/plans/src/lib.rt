@@ -3,14 +3,14 @@
 
 ghost use Rattle.std.specs.Prelude.{◌≡◌, ◌<◌, ◌≤◌, ◌%◌, ◌^◌};
 ghost use Rattle.std.specs.Int.Count.{ones};
-ghost use Rattle.stores.specs.Columns.{viewed, entries_of, zero_ref, ValueColumns};
-ghost use Rattle.plans.specs.Prepare.{side_number, side_phases, action_of, stage_levels};
-ghost use Rattle.plans.specs.Layout.{pairs, paired, planned, Planning, Roomy, Cleared, SameScratch};
+ghost use Rattle.stores.specs.Columns.{value_columns, entries_of, zero_ref, ValueColumns};
+ghost use Rattle.plans.specs.Prepare.{side_number, side_phases, stage_levels};
+ghost use Rattle.plans.specs.Layout.{counted, planned, Planning, Roomy, Cleared, SameScratch};
 
 use algebra::Entry;
-use gates::{Phases, Rule};
-use stores::View;
-use transitions::{Act, Plan};
+use gates::{Act, Phases, Rule};
+use stores::{Used, Values};
+use transitions::Plan;
 
 // The sizes of the smallest tables.
 const LEAST_NODE_HEADS: u32 = 64;
@@ -45,11 +45,13 @@ pub struct Sizes {
     pub slots: u32,
 }
 
-// The nodes and values that a store holds.
+// A step before it is planned: a gate put on a side of a matrix on n qubits, the sizes that it may use, and what its source holds.
 #[derive(Clone, Copy)]
-pub struct Used {
-    pub nodes: u32,
-    pub values: u32,
+pub struct Step {
+    pub action: Action,
+    pub n: u32,
+    pub sizes: Sizes,
+    pub used: Used,
 }
 
 // What is lent to a step beside the stores: slots for the product's terminals, the indexes of the two unique tables, the computed table.
@@ -67,26 +69,13 @@ pub struct Scratch<'a> {
 fn phases_of(rule: Rule, side: Side) -> Phases
     ensures { result ≡ side_phases (side_number side) rule }
 {
-    if rule.mixes {
+    if rule.act == Act::Mixes {
         return Phases { zero: 0, one: 4 };
     }
     match side {
-        Side::Left => rule.left,
         Side::Right => rule.right,
+        Side::Left => rule.left,
     }
-}
-
-// What the gate does at its target.
-fn action_of(rule: Rule) -> Act
-    ensures { result ≡ action_of rule }
-{
-    if rule.mixes {
-        return Act::Mixes;
-    }
-    if rule.swaps {
-        return Act::Swaps;
-    }
-    Act::Moves
 }
 
 // The levels of the qubits that a mask names, lowest first.
@@ -95,12 +84,8 @@ fn stages_of(named: u32, side: Side) -> [u32; 16]
     ensures { result ≡ stage_levels (side_number side) named }
 {
     let mut stages = [0; 16];
-    let mut k = 0;
-    for q in 0..16 {
-        if (named >> q) % 2 == 1 {
-            stages[k] = 2 * q + side as u32;
-            k += 1;
-        }
+    for (k, q) in (0..16).filter(|&q| (named >> q) % 2 == 1).enumerate() {
+        stages[k] = 2 * q + side as u32;
     }
     stages
 }
@@ -110,45 +95,45 @@ fn named_below(named: u32, q: u32) -> u32
     requires { q < 16 }
     ensures { result ≡ ones (named % 2 ^ q) }
 {
-    u32::count_ones(named % (1 << q))
+    (named % (1 << q)).count_ones()
 }
 
 // ---- the plan of a step
 
-// Whether a gate makes pairs of references.
-fn pairs(rule: Rule) -> bool
-    ensures { result ≡ pairs rule }
-{
-    rule.mixes || rule.swaps
-}
-
-// How many nodes the computed table is sized for: pairs of references are several to a node.
-fn paired(pairs: bool, nodes: u32) -> u32
+// How many nodes the computed table is sized for: four for each where a gate mixes or swaps, since that makes pairs of references.
+fn counted(rule: Rule, nodes: u32) -> u32
     requires { nodes ≤ 65536 }
-    ensures { result ≡ paired pairs nodes }
+    ensures { result ≡ counted rule nodes }
 {
-    if pairs { 4 * nodes } else { nodes }
+    match rule.act {
+        Act::Mixes | Act::Swaps => 4 * nodes,
+        Act::Keeps | Act::Flips => nodes,
+    }
 }
 
 // The plan of a step from a source with these values: its gate, the source's zero and counts, the sizes of the tables, the width and the
 // levels.
-pub fn plan_step(action: Action, n: u32, sizes: Sizes, used: Used, source: &View<'_>) -> Plan
-    requires { Planning action n used × ValueColumns (viewed source.now) used.values }
-    ensures { result ≡ planned action n sizes used (zero_ref (entries_of (viewed source.now) used.values)) }
+pub fn plan_step(step: Step, source: &Values<'_>) -> Plan
+    requires { Planning step.action step.n step.used × ValueColumns (value_columns source.now) step.used.values }
+    ensures { result ≡ planned step.action step.n step.sizes step.used (zero_ref (entries_of (value_columns source.now) step.used.values)) }
 {
-    let counted = paired(pairs(action.rule), used.nodes);
+    let Step {
+        action,
+        n,
+        sizes,
+        used,
+    } = step;
     Plan {
         stages: stages_of(action.named, action.side),
         stage_count: action.named.count_ones(),
         target: named_below(action.named, action.low),
         second: named_below(action.named, action.high),
-        flips: action.rule.flips,
-        act: action_of(action.rule),
+        act: action.rule.act,
         phases: phases_of(action.rule, action.side),
         zero: source.zero(used.values),
         node_heads: tables::table_size(used.nodes, LEAST_NODE_HEADS, sizes.heads),
         value_heads: tables::table_size(used.values, LEAST_VALUE_HEADS, sizes.heads),
-        slots: tables::table_size(counted, LEAST_SLOTS, sizes.slots),
+        slots: tables::table_size(counted(action.rule, used.nodes), LEAST_SLOTS, sizes.slots),
         width: sizes.width,
         levels: 2 * n,
         span: 2 * used.nodes.max(used.values),
@@ -166,7 +151,8 @@ pub fn clear_tables(plan: &Plan, nodes: usize, values: usize, scratch: &mut Scra
     let node_end = nodes + plan.node_heads as usize;
     let value_end = values + plan.value_heads as usize;
     let memo_end = 3 * plan.span as usize + 4 * plan.slots as usize;
-    stores::clear_index(scratch.node_index, nodes, node_end);
-    stores::clear_index(scratch.value_index, values, value_end);
-    tables::clear_table(scratch.memo, memo_end);
+    scratch.node_index[nodes..node_end].fill(0);
+    scratch.value_index[values..value_end].fill(0);
+    // 0 is written out: of a slice by `..memo_end` the check is not told what it becomes, and the proof did not close
+    scratch.memo[0..memo_end].fill(0);
 }

@@ -11,6 +11,7 @@ use Rattle.algebra.specs.Entry.{entry}
 use Rattle.circuits.specs.Refusals.{ends_early}
 use Rattle.miters.specs.declared.CallFault.TheVariants.{QubitCounts}
 use Rattle.miters.specs.declared.StepFault.TheVariants.{OutsideWidth}
+use Rattle.miters.specs.declared.Part.TheVariants.{Length}
 use Rattle.miters.specs.declared.Refusal.TheVariants.{Call, Byte, Step}
 use Rattle.miters.specs.declared.Verdict.{Verdict}
 use Rattle.miters.specs.declared.Verdict.TheVariants.{Equal, Different}
@@ -30,7 +31,7 @@ small v steps = record { verdict = v; exponent = 0; steps = steps; nodes = 3; va
 
 abbrev pub reports : List Report
 reports =
-    refused (Byte 0 (record { fault = ends_early; offset = 0 }))
+    refused (Byte Length (record { fault = ends_early; offset = 0 }))
     ∷ refused (Step OutsideWidth 61)
     ∷ refused (Call QubitCounts)
     ∷ small (Equal one_entry) 0

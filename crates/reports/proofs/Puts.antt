@@ -1,6 +1,6 @@
 -- Texts written into a line: words copied to its end; one text after another is the two joined; what is written from the front on.
 -- Assumes nothing.
-use mathlib.Core.Path.{◌≡◌, refl, sym, ap, ◌∙◌}
+use mathlib.Core.Path.{◌≡◌, refl, sym, ap, subst, ◌∙◌}
 use mathlib.Core.List.{List, [], ◌∷◌, ◌++◌}
 use Prim.Native.Nat.{ℕ, suc, ◌+◌, ◌≤◌}
 use native.Mathlib.Nat.{add-zero, zero-add, le_trans, le_refl}
@@ -41,6 +41,11 @@ put_none = record { wrote = record { place = sym (add-zero _); stored = refl }; 
 pub put_within : {text : List ℕ} {a b : Line} {m n : ℕ} → m ≤ n → Put text m a b → Put text n a b
 put_within h p = record { wrote = p.wrote; short = le_trans p.short h; same = p.same }
 
+-- the text as it is called elsewhere
+pub put_text : {s t : List ℕ} {a b : Line} {m n : ℕ} → s ≡ t → length s ≤ n → Put s m a b → Put t n a b
+put_text {n = n} is short p =
+    record { wrote = rw (sym is) p.wrote; short = subst (λ (text : List ℕ). length text ≤ n) is short; same = p.same }
+
 -- ---- a text at the front
 
 sets_none : (at : ℕ) (text : List ℕ) → ◌≡◌ {A = List ℕ} (sets [] at text) []
@@ -60,16 +65,6 @@ sets_front (x ∷ text) (y ∷ l) = sets_behind x l 0 text ∙ ap (λ (r : List 
 pub put_first : {text before after : List ℕ} {next : ℕ} → Wrote text 0 before after next →
     (next ≡ length text) × (after ≡ over_front text before)
 put_first {text} {before} p = (p.place ∙ zero-add (length text), p.stored ∙ sets_front text before)
-
-pub length_over_front : (text buffer : List ℕ) → length (over_front text buffer) ≡ length buffer
-unfolding over_front
-length_over_front [] buffer = refl
-length_over_front (x ∷ text) [] = refl
-length_over_front (x ∷ text) (y ∷ buffer) = ap suc (length_over_front text buffer)
-
--- a place within the buffer is within it after the text too
-pub still_within : (text before : List ℕ) {after : List ℕ} {place : ℕ} → after ≡ over_front text before → place ≤ length before → place ≤ length after
-still_within text before is within = omega (arith, ap length is, length_over_front text before)
 
 -- a buffer that has room holds the text, and then what it held
 pub over_front_is : (text buffer : List ℕ) → length text ≤ length buffer → over_front text buffer ≡ text ++ drop (length text) buffer

@@ -1,5 +1,5 @@
 -- Whole numbers by their sign: the text of one is what the library prints, and says that number. Assumes nothing.
-use mathlib.Core.Path.{◌≡◌, refl, sym, ap, ◌∙◌}
+use mathlib.Core.Path.{◌≡◌, refl, ap, ◌∙◌}
 use mathlib.Core.Bool.{Bool, cond}
 use mathlib.Core.List.{List, [], ◌∷◌, ◌++◌}
 use Prim.Native.Nat.{ℕ, suc, ◌^◌, ◌<◌}
@@ -10,15 +10,19 @@ use lib.IntN.{ℤ, pos, negsuc, neg_ℤ}
 use lib.Signed.{mag}
 use mir.Facts.{to_z-of_z}
 use mir.Syntax.{w32}
-use mir.Val.{SFits, to_z, of_z}
+use mir.Val.{to_z, of_z}
 use Rattle.std.specs.Fmt.{signed_decimal}
-use Rattle.algebra.specs.declared.Entry.{Entry}
-use Rattle.reports.specs.Line.{bytes, whole, numbers}
+use Rattle.reports.specs.declared.Line.{Line}
+use Rattle.reports.specs.Line.{bytes, whole, after_space}
+use Rattle.reports.specs.Writing.{Put}
 use Rattle.reports.proofs.Decimals.{Decimal, none, more, digits_decimal, value, value_digits, digits_printed}
 
 -- an `i32` as a local holds it
 abbrev held : ℤ → ℤ
 held z = to_z w32 (of_z w32 z)
+
+held_is : (z : ℤ) → mag z < 2 ^ 31 → held z ≡ z
+held_is z h = to_z-of_z {w = w32} (record { sfits = h })
 
 -- ---- the text
 
@@ -27,8 +31,9 @@ unfolding whole
 printed (pos n) h = digits_printed n (omega arith)
 printed (negsuc n) h = ap (λ (s : List ℕ). bytes "-" ++ s) (digits_printed (suc n) (omega arith))
 
-pub whole_printed : {z : ℤ} → SFits w32 z → whole z ≡ signed_decimal (held z)
-whole_printed {z} fits = printed z fits.sfits ∙ ap signed_decimal (sym (to_z-of_z fits))
+-- a number written behind a space
+pub put_whole : {a b : Line} {m : ℕ} (z : ℤ) → mag z < 2 ^ 31 → Put (bytes " " ++ signed_decimal (held z)) m a b → Put (after_space z) m a b
+put_whole z h p = rw (printed z h) (rw (held_is z h) at p)
 
 -- ---- the number that a text says
 
@@ -44,15 +49,3 @@ pub whole_value_is : (z : ℤ) → whole_value (whole z) ≡ z
 unfolding whole
 whole_value_is (pos n) = unsigned (digits_decimal n) ∙ ap pos (value_digits n)
 whole_value_is (negsuc n) = ap (λ (m : ℕ). neg_ℤ (pos m)) (value_digits (suc n))
-
--- ---- an entry's
-
-abbrev held_entry : Entry → Entry
-held_entry x = record { a = held x.a; b = held x.b; c = held x.c; d = held x.d }
-
-held_is : (z : ℤ) → mag z < 2 ^ 31 → z ≡ held z
-held_is z h = sym (to_z-of_z {w = w32} (record { sfits = h }))
-
-pub numbers_held : (x : Entry) → mag x.a < 2 ^ 31 → mag x.b < 2 ^ 31 → mag x.c < 2 ^ 31 → mag x.d < 2 ^ 31 →
-    numbers x ≡ numbers (held_entry x)
-numbers_held x a b c d = ap numbers (λ i. record { a = held_is x.a a i; b = held_is x.b b i; c = held_is x.c c i; d = held_is x.d d i })

@@ -5,12 +5,13 @@ use Prim.Native.Char.{code}
 use Prim.Native.String.{String}
 use Rattle.algebra.specs.declared.Entry.{Entry}
 use Rattle.miters.specs.declared.Difference.{Difference}
+use Rattle.miters.specs.declared.Part.{Part}
 use Rattle.miters.specs.declared.Refusal.{Refusal}
 use Rattle.miters.specs.declared.Refusal.TheVariants.{Call, Byte, Step}
 use Rattle.miters.specs.declared.Verdict.{Verdict}
 use Rattle.miters.specs.declared.Verdict.TheVariants.{Equal, Different, Refused}
 use Rattle.miters.specs.declared.Report.{Report}
-use Rattle.miters.specs.Report.{number_of}
+use Rattle.miters.specs.Report.{part_number, number_of}
 
 -- ---- text and numbers
 
@@ -56,8 +57,8 @@ abbrev pub named_entry : String → Entry → List ℕ
 named_entry words x = bytes words ++ numbers x
 
 -- what is returned of a byte: "list, offset"
-unfoldable pub place : ℕ → ℕ → List ℕ
-place list offset = named " list " list ++ named " byte " offset
+unfoldable pub place : Part → ℕ → List ℕ
+place list offset = named " list " (part_number list) ++ named " byte " offset
 
 -- what is returned beside the number
 abbrev pub beside : Refusal → List ℕ

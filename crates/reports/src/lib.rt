@@ -2,18 +2,18 @@
 #![tactic(auto)]
 
 ghost use Rattle.std.specs.Prelude.{◌≡◌, ◌++◌, ◌+◌, ◌≤◌, length};
-ghost use Rattle.reports.specs.Line.{digits, after_space, numbers, place, refusal, counts, difference, answer, line, over_front};
+ghost use Rattle.reports.specs.Line.{numbers, place, refusal, counts, difference, answer, line, over_front};
 ghost use Rattle.reports.specs.Writing.{room, Put};
 
 use algebra::Entry;
 use itoa::{Buffer, Integer};
-use miters::{Difference, Refusal, Report, Verdict};
+use miters::{Difference, Part, Refusal, Report, Verdict};
 
 // The bytes of a buffer: every line fits, since the longest has 224.
 pub const ROOM: usize = 256;
 
 // A line as far as it is written: the bytes of the buffer before `end`. Its methods stand in the place of `write!`, whose clauses say what
-// is written where it succeeds, and none that it does.
+// is written where it succeeds, and none that it does. It is no `Writer` of a list: its buffer has a fixed size, by which each method has room.
 #[derive(Drop)]
 struct Line<'a> {
     buffer: &'a mut [u8; ROOM],
@@ -32,31 +32,14 @@ impl Line<'_> {
         buffer[start..self.end].copy_from_slice(words);
     }
 
-    // The decimal digits of a number, after its sign if it is below zero.
-    fn number<I: Integer>(&mut self, n: I)
-        requires { self.old.end + I.MAX_STR_LEN ≤ room }
-        ensures { Put (I.text n) I.MAX_STR_LEN self.old self.new }
+    // Some words, which end in a space, and a number, with its sign if it is below zero.
+    fn named<I: Integer>(&mut self, words: &[u8], n: I)
+        requires { self.old.end + (length words.now + I.MAX_STR_LEN) ≤ room }
+        ensures { Put (words.now ++ I.text n) (length words.now + I.MAX_STR_LEN) self.old self.new }
     {
         let mut digits = Buffer::new();
-        self.words(digits.format(n).as_bytes());
-    }
-
-    // Some words, which end in a space, and a number.
-    fn named(&mut self, words: &[u8], n: u32)
-        requires { self.old.end + (length words.now + 10) ≤ room }
-        ensures { Put (words.now ++ digits n) (length words.now + 10) self.old self.new }
-    {
         self.words(words);
-        self.number(n);
-    }
-
-    // A space and a number.
-    fn whole(&mut self, z: i32)
-        requires { self.old.end + 12 ≤ room }
-        ensures { Put (after_space z) 12 self.old self.new }
-    {
-        self.words(b" ");
-        self.number(z);
+        self.words(digits.format(n).as_bytes());
     }
 
     // Some words and the four numbers of an entry.
@@ -65,10 +48,10 @@ impl Line<'_> {
         ensures { Put (words.now ++ numbers x) (length words.now + 48) self.old self.new }
     {
         self.words(words);
-        self.whole(x.a);
-        self.whole(x.b);
-        self.whole(x.c);
-        self.whole(x.d);
+        self.named(b" ", x.a);
+        self.named(b" ", x.b);
+        self.named(b" ", x.c);
+        self.named(b" ", x.d);
     }
 
     // What a finished run adds to its verdict.
@@ -93,13 +76,12 @@ impl Line<'_> {
     }
 
     // Where a byte is that was refused.
-    fn place(&mut self, list: u32, offset: usize)
+    fn place(&mut self, list: Part, offset: usize)
         requires { self.old.end + 42 ≤ room }
         ensures { Put (place list offset) 42 self.old self.new }
     {
-        self.named(b" list ", list);
-        self.words(b" byte ");
-        self.number(offset);
+        self.named(b" list ", list as u32);
+        self.named(b" byte ", offset);
     }
 
     // The number of a refusal, and then what it returns beside it.

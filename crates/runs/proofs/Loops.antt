@@ -1,15 +1,15 @@
 -- The loop's invariant, for every run that the lists and the stores may stand for; and the whole run, with the identity before it.
 -- Assumes nothing.
-use mathlib.Core.Path.{◌≡◌, refl, sym, ◌∙◌, ap, subst, subst₂}
+use mathlib.Core.Path.{◌≡◌, refl, sym, ◌∙◌, ap, subst}
 use mathlib.Core.List.{List}
 use Prim.Native.Nat.{ℕ, suc, ◌+◌, ◌-◌, ◌*◌, ◌<◌, ◌≤◌}
 use native.Mathlib.Omega.{arith}
 use lib.ListN.{length, get_or}
+use Rattle.gates.specs.Rule.{does_mix}
 use Rattle.diagrams.specs.Diagram.{diagram}
 use Rattle.stores.specs.Columns.{Columns, columns_of, Holds, SameColumns}
 use Rattle.stores.specs.declared.Store.{Store as LentStore}
 use Rattle.stores.proofs.Columns.{same_none, same_then}
-use Rattle.circuits.specs.Remaining.{Remaining}
 use Rattle.std.specs.Prelude.{Result, Ok, Err}
 use Rattle.miters.specs.declared.StepFault.{StepFault}
 use Rattle.miters.specs.declared.StepFault.TheVariants.{NoRoom}
@@ -21,14 +21,15 @@ use Rattle.plans.specs.Prepare.{as_number}
 use Rattle.plans.specs.declared.Sizes.{Sizes}
 use Rattle.steps.specs.Stepping.{lent_with}
 use Rattle.steps.specs.Stepping as stepping
-use Rattle.choices.specs.declared.Offsets.{Offsets}
 use Rattle.plans.specs.declared.Action.{Action}
-use Rattle.plans.specs.declared.Used.{Used}
+use Rattle.plans.specs.declared.Step.{Step as Given}
+use Rattle.stores.specs.declared.Used.{Used}
 use Rattle.plans.specs.declared.Scratch.{Scratch as LentScratch}
 use Rattle.plans.specs.Layout.{SameScratch}
 use Rattle.choices.specs.declared.Lists.{Lists as Readers}
 use Rattle.runs.specs.declared.Finish.{Finish}
 use Rattle.runs.specs.Running.{Task, Ran}
+use Rattle.choices.specs.declared.Course.{Course}
 use Rattle.choices.specs.Choosing.{Chosen}
 use Rattle.runs.specs.Inside.{current, Room, Begun, Started, Followed}
 use Rattle.runs.proofs.Stores.{long_same, scratch_none, scratch_then, scratch_same}
@@ -38,9 +39,15 @@ use Rattle.runs.proofs.Turns.{Running, ran_stopped, turn_task, turn_runs, turn_s
 
 -- ---- the loop
 
-module _ (u v schedule : List ℕ) (n : ℕ) (offsets₀ : Offsets) (sizes : Sizes) (first₀ second₀ : LentStore) (T₀ : LentScratch) where
+module _ (course : Course) (sizes : Sizes) (first₀ second₀ : LentStore) (T₀ : LentScratch) where
+  abbrev n : ℕ
+  n = course.n
+
+  abbrev schedule : List ℕ
+  schedule = course.schedule.now
+
   abbrev pub Starts : Type 0
-  Starts = Started u v schedule n offsets₀ sizes (columns_of first₀) (columns_of second₀) T₀
+  Starts = Started course sizes (columns_of first₀) (columns_of second₀) T₀
 
   abbrev pub lent_of : Starts → Lent
   lent_of s = lent_with sizes s.task.N s.task.L
@@ -62,44 +69,42 @@ module _ (u v schedule : List ℕ) (n : ℕ) (offsets₀ : Offsets) (sizes : Siz
         → Running (lent_of s) n schedule (whole_of s) readers exponent i used (current (length schedule - i) (columns_of first) (columns_of second))
 
   -- at the first gates, in the identity
-  module _ (readers : Readers) (bytes_u : readers.first.bytes.now ≡ u) (bytes_v : readers.second.bytes.now ≡ v)
-      (at_u : readers.first.at ≡ offsets₀.first) (at_v : readers.second.at ≡ offsets₀.second) where
-    abbrev at_start : Used
-    at_start = record { nodes = 3 * n; values = 2 }
+  abbrev at_start : Used
+  at_start = record { nodes = 3 * n; values = 2 }
 
-    started : (s : Starts)
-        → Running (lent_of s) n schedule (whole_of s) readers 0 0 at_start (current (length schedule - 0) (columns_of first₀) (columns_of second₀))
-    unfolding start
-    started s =
-        let task = s.task in
-        let same : length schedule ≡ length schedule - 0 = omega arith in
-        record {
-          us = task.us;
-          vs = task.vs;
-          M = start;
-          within = omega arith;
-          lists = record {
-            gates_u = subst₂ (λ (l : List ℕ) (k : ℕ). Remaining n l k task.us) (sym bytes_u) (sym at_u) task.gates_u;
-            gates_v = subst₂ (λ (l : List ℕ) (k : ℕ). Remaining n l k task.vs) (sym bytes_v) (sym at_v) task.gates_v;
-            fit_u = task.within_u.all_fit;
-            fit_v = task.within_v.all_fit;
-          };
-          fitting = fits_fitting task.us task.vs schedule task.fitting;
-          reached = reached_start n;
-          ends = refl;
-          power = refl;
-          few = omega arith;
-          holds = record {
-            holds = subst (λ (k : ℕ). Holds task.N task.L (diagram n start.entries).store (current k (columns_of first₀) (columns_of second₀)))
-                same s.identity.holds;
-            nodes = s.identity.nodes;
-            values = s.identity.values;
-            root = s.identity.root;
-          };
-        }
+  started : (s : Starts)
+      → Running (lent_of s) n schedule (whole_of s) course.lists 0 0 at_start (current (length schedule - 0) (columns_of first₀) (columns_of second₀))
+  unfolding start
+  started s =
+      let task = s.task in
+      let same : length schedule ≡ length schedule - 0 = omega arith in
+      record {
+        us = task.us;
+        vs = task.vs;
+        M = start;
+        within = omega arith;
+        lists = record {
+          gates_u = task.gates_u;
+          gates_v = task.gates_v;
+          fit_u = task.within_u.all_fit;
+          fit_v = task.within_v.all_fit;
+        };
+        fitting = fits_fitting task.us task.vs schedule task.fitting;
+        reached = reached_start n;
+        ends = refl;
+        power = refl;
+        few = omega arith;
+        holds = record {
+          holds = subst (λ (k : ℕ). Holds task.N task.L (diagram n start.entries).store (current k (columns_of first₀) (columns_of second₀)))
+              same s.identity.holds;
+          nodes = s.identity.nodes;
+          values = s.identity.values;
+          root = s.identity.root;
+        };
+      }
 
-    pub turning_starts : Turning readers 0 0 at_start first₀ second₀ T₀
-    turning_starts = record { same_first = same_none first₀; same_second = same_none second₀; same_scratch = scratch_none T₀; runs = started }
+  pub turning_starts : Turning course.lists 0 0 at_start first₀ second₀ T₀
+  turning_starts = record { same_first = same_none first₀; same_second = same_none second₀; same_scratch = scratch_none T₀; runs = started }
 
   module _ {readers : Readers} {exponent i : ℕ} {used : Used} {first second : LentStore} {T : LentScratch}
       (t : Turning readers exponent i used first second T) where
@@ -116,13 +121,17 @@ module _ (u v schedule : List ℕ) (n : ℕ) (offsets₀ : Offsets) (sizes : Siz
       abbrev into : Columns
       into = current (length schedule - i) (columns_of second) (columns_of first)
 
-      abbrev pub step_task : (s : Starts) → stepping.Task action n sizes used from into T
+      -- the step
+      abbrev step : Given
+      step = record { action = action; n = n; sizes = sizes; used = used }
+
+      abbrev pub step_task : (s : Starts) → stepping.Task step from into T
       step_task s = turn_task (t.runs s) more s.task.within_u.few_qubits chosen s.task.width
           (current_long (length schedule - i) (long_same {s = second₀} {s' = second} s.task.second_long t.same_second)
           (long_same {s = first₀} {s' = first} s.task.first_long t.same_first))
           (scratch_same s.task.scratch t.same_scratch)
 
-      module _ {answer : Result Used StepFault} (first' second' : LentStore) (left : stepping.Left action n sizes used from into T
+      module _ {answer : Result Used StepFault} (first' second' : LentStore) (left : stepping.Left step from into T
           (current (length schedule - i) (columns_of second') (columns_of first')) answer) where
         pub turning_stops : {fault : StepFault} → answer ≡ Err fault
             → (s : Starts) → Ran (lent_of s) n (columns_of first') (whole_of s) (Err (at_step fault i))
@@ -136,7 +145,7 @@ module _ (u v schedule : List ℕ) (n : ℕ) (offsets₀ : Offsets) (sizes : Siz
             sym (current_next (length schedule - (i + 1)) (columns_of first') (columns_of second')
             ∙ ap (λ (k : ℕ). current k (columns_of second') (columns_of first')) one_less)
 
-        pub turning_on : {used' : Used} {T' : LentScratch} (h : ℕ) → answer ≡ Ok used' → h ≡ as_number action.rule.mixes
+        pub turning_on : {used' : Used} {T' : LentScratch} (h : ℕ) → answer ≡ Ok used' → h ≡ as_number (does_mix action.rule.act)
             → SameColumns first first' → SameColumns second second' → SameScratch T T'
             → Turning readers' (exponent + h) (i + 1) used' first' second' T'
         turning_on {used'} h going h_is same_first same_second same_scratch = record {
@@ -150,24 +159,25 @@ module _ (u v schedule : List ℕ) (n : ℕ) (offsets₀ : Offsets) (sizes : Siz
 
 -- ---- the whole run
 
-module _ {u v schedule : List ℕ} {n : ℕ} {offsets : Offsets} {sizes : Sizes} (first second : LentStore) (T : LentScratch)
-    (task : Task u v schedule n offsets sizes (columns_of first) (columns_of second) T) where
+module _ {course : Course} {sizes : Sizes} (first second : LentStore) (T : LentScratch)
+    (task : Task course sizes (columns_of first) (columns_of second) T) where
   abbrev lent : Lent
   lent = lent_with sizes task.N task.L
 
   abbrev along : List Step
-  along = steps schedule task.us task.vs
+  along = steps course.schedule.now task.us task.vs
 
   -- no room for the identity
-  pub run_few_nodes : {last : Columns} → length first.level.now < 3 * n → Ran lent n last (ended lent n along) (Err (at_step NoRoom 0))
-  run_few_nodes less = ran_stopped (no_nodes n task.within_u.some_qubit lent along (omega (arith, less, task.first_long.of_level))) refl
+  pub run_few_nodes : {last : Columns} → length first.level.now < 3 * course.n
+      → Ran lent course.n last (ended lent course.n along) (Err (at_step NoRoom 0))
+  run_few_nodes less = ran_stopped (no_nodes course.n task.within_u.some_qubit lent along (omega (arith, less, task.first_long.of_level))) refl
 
-  pub run_few_values : {last : Columns} → length first.a.now < 2 → Ran lent n last (ended lent n along) (Err (at_step NoRoom 0))
-  run_few_values less = ran_stopped (no_values n task.within_u.some_qubit lent along (omega (arith, less, task.first_long.of_a))) refl
+  pub run_few_values : {last : Columns} → length first.a.now < 2 → Ran lent course.n last (ended lent course.n along) (Err (at_step NoRoom 0))
+  run_few_values less = ran_stopped (no_values course.n task.within_u.some_qubit lent along (omega (arith, less, task.first_long.of_a))) refl
 
   -- room for it
-  module _ (nodes : 3 * n ≤ length first.level.now) (values : 2 ≤ length first.a.now) where
-    abbrev pub run_room : Room n (columns_of first) (columns_of second)
+  module _ (nodes : 3 * course.n ≤ length first.level.now) (values : 2 ≤ length first.a.now) where
+    abbrev pub run_room : Room course.n (columns_of first) (columns_of second)
     run_room = record {
       N = task.N;
       L = task.L;
@@ -179,8 +189,8 @@ module _ {u v schedule : List ℕ} {n : ℕ} {offsets : Offsets} {sizes : Sizes}
     }
 
     module _ {first' second' : LentStore} (same_first : SameColumns first first') (same_second : SameColumns second second')
-        (begun : Begun (length schedule) n (columns_of first) (columns_of second) (columns_of first') (columns_of second')) where
-      abbrev pub run_starts : Started u v schedule n offsets sizes (columns_of first') (columns_of second') T
+        (begun : Begun (length course.schedule.now) course.n (columns_of first) (columns_of second) (columns_of first') (columns_of second')) where
+      abbrev pub run_starts : Started course sizes (columns_of first') (columns_of second') T
       run_starts = record {
         task = record {
           us = task.us;
@@ -197,13 +207,13 @@ module _ {u v schedule : List ℕ} {n : ℕ} {offsets : Offsets} {sizes : Sizes}
           second_long = long_same {s = second} {s' = second'} task.second_long same_second;
           scratch = task.scratch;
         };
-        identity = start_source n task.within_u.some_qubit (current_long (length schedule) task.first_long task.second_long)
+        identity = start_source course.n task.within_u.some_qubit (current_long (length course.schedule.now) task.first_long task.second_long)
             run_room.nodes run_room.values begun;
       }
 
       pub run_followed : {last : Columns} {r : Result Finish Refusal}
-          → Followed u v schedule n offsets sizes (columns_of first') (columns_of second') T last r
-          → Ran lent n last (ended lent n along) r
+          → Followed course sizes (columns_of first') (columns_of second') T last r
+          → Ran lent course.n last (ended lent course.n along) r
       run_followed {last} {r} followed =
-          subst (λ (e : Ended). Ran lent n last e r)
-          (sym (room_followed n task.within_u.some_qubit lent along run_room.nodes run_room.values)) (followed run_starts)
+          subst (λ (e : Ended). Ran lent course.n last e r)
+          (sym (room_followed course.n task.within_u.some_qubit lent along run_room.nodes run_room.values)) (followed run_starts)

@@ -11,6 +11,7 @@ use lib.Seq.{drop-cons, drop-length}
 use Rattle.algebra.specs.Matrix.{Matrix}
 use Rattle.algebra.specs.Width.{fit_width}
 use Rattle.gates.specs.Gate.{Gate, halves}
+use Rattle.gates.specs.Rule.{does_mix}
 use Rattle.stores.specs.Columns.{Columns}
 use Rattle.std.specs.Prelude.{Result, Ok, Err}
 use Rattle.miters.specs.declared.StepFault.{StepFault}
@@ -22,7 +23,7 @@ use Rattle.miters.specs.Run.{Lent, Ended, done, stopped, follow}
 use Rattle.miters.proofs.Runs.{follow_too_wide, follow_too_full, follow_on}
 use Rattle.plans.specs.Prepare.{as_number, product_on}
 use Rattle.plans.specs.declared.Sizes.{Sizes}
-use Rattle.plans.specs.declared.Used.{Used}
+use Rattle.stores.specs.declared.Used.{Used}
 use Rattle.plans.specs.declared.Scratch.{Scratch as LentScratch}
 use Rattle.plans.specs.Layout.{Acts}
 use Rattle.steps.specs.Stepping.{Source, Long, Scratch, Took, built, too_large, too_wide}
@@ -96,7 +97,7 @@ module _ {lent : Lent} {n : ℕ} {schedule : List ℕ} {whole : Ended} {readers 
 
     -- what the step is given
     abbrev pub turn_task : {sizes : Sizes} {T : LentScratch} {other : Columns} → fit_width sizes.width ≡ true → Long lent.nodes lent.values other
-        → Scratch lent.nodes lent.values sizes T → stepping.Task action n sizes used C other T
+        → Scratch lent.nodes lent.values sizes T → stepping.Task (record { action = action; n = n; sizes = sizes; used = used }) C other T
     turn_task width room scratch = record {
       N = lent.nodes;
       L = lent.values;
@@ -116,7 +117,7 @@ module _ {lent : Lent} {n : ℕ} {schedule : List ℕ} {whole : Ended} {readers 
       leaves : Took lent n M'.entries C' answer
       leaves = subst (λ (P : Matrix). Took lent n P C' answer) (product_stepped this.side n this.gate r.M) took
 
-      pub turn_runs : {used' : Used} (h : ℕ) → 1 ≤ n → answer ≡ Ok used' → h ≡ as_number action.rule.mixes
+      pub turn_runs : {used' : Used} (h : ℕ) → 1 ≤ n → answer ≡ Ok used' → h ≡ as_number (does_mix action.rule.act)
           → Running lent n schedule whole readers' (exponent + h) (i + 1) used' C'
       turn_runs {used'} h some going h_is = by_took leaves going
         where
@@ -124,7 +125,7 @@ module _ {lent : Lent} {n : ℕ} {schedule : List ℕ} {whole : Ended} {readers 
           reached' = reached_next n r.M r.reached this.takes r.lists.fit_u r.lists.fit_v
 
           added : h ≡ halves this.gate
-          added = h_is ∙ ap (λ rule. as_number rule.mixes) picked.0.rule ∙ gate_halves this.gate
+          added = h_is ∙ ap (λ rule. as_number (does_mix rule.act)) picked.0.rule ∙ gate_halves this.gate
 
           by_took : {given : Result Used StepFault} → Took lent n M'.entries C' given → given ≡ Ok used'
               → Running lent n schedule whole readers' (exponent + h) (i + 1) used' C'

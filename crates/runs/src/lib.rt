@@ -7,11 +7,10 @@ ghost use Rattle.steps.specs.Stepping as stepping;
 ghost use Rattle.runs.specs.Running.{Task, Left};
 ghost use Rattle.runs.specs.Inside.{current, Room, Begun, Started, Followed};
 
-use choices::{Lists, Offsets};
-use circuits::Reader;
+use choices::Course;
 use miters::{Refusal, StepFault};
-use plans::{Action, Scratch, Sizes, Used};
-use stores::Store;
+use plans::{Scratch, Sizes, Step};
+use stores::{Store, Used};
 
 // The nodes and values of the identity: three nodes a qubit, one and zero.
 const NODES_A_QUBIT: u32 = 3;
@@ -26,17 +25,8 @@ pub struct Finish {
     pub used: Used,
 }
 
-// What a run follows: two lists that passed the checks, on n qubits, the schedule along which they are taken, and where their gates begin.
-#[derive(Clone, Copy)]
-pub struct Course<'a> {
-    pub u: &'a [u8],
-    pub v: &'a [u8],
-    pub schedule: &'a [u8],
-    pub n: u32,
-    pub offsets: Offsets,
-}
-
-// ---- the stores, which take turns: both ways round are one call with the two exchanged, which a closure would make no plainer
+// ---- the stores, which take turns: both ways round are one call with the two exchanged. The language refuses to choose the source and the
+// target first, in one pair: the two would have to be lent for one lifetime, and then a call could not take two stores of different ones.
 
 // The identity goes into the store that is current while all steps are left, so that the last step ends in the first store.
 fn begin(left: usize, n: u32, first: &mut Store<'_>, second: &mut Store<'_>)
@@ -55,17 +45,14 @@ fn begin(left: usize, n: u32, first: &mut Store<'_>, second: &mut Store<'_>)
 // One step, with so many left: from the store that is current into the other one.
 fn advance(
     left: usize,
-    action: Action,
-    n: u32,
-    sizes: Sizes,
-    used: Used,
+    step: Step,
     first: &mut Store<'_>,
     second: &mut Store<'_>,
     scratch: &mut Scratch<'_>,
 ) -> Result<Used, StepFault>
-    requires { stepping.Task action n sizes used (current left (columns_of first.old) (columns_of second.old))
+    requires { stepping.Task step (current left (columns_of first.old) (columns_of second.old))
         (current left (columns_of second.old) (columns_of first.old)) scratch.old }
-    ensures left { stepping.Left action n sizes used (current left (columns_of first.old) (columns_of second.old))
+    ensures left { stepping.Left step (current left (columns_of first.old) (columns_of second.old))
         (current left (columns_of second.old) (columns_of first.old)) scratch.old
         (current left (columns_of second.new) (columns_of first.new)) result }
     ensures same_first { SameColumns first.old first.new }
@@ -73,9 +60,9 @@ fn advance(
     ensures same_scratch { SameScratch scratch.old scratch.new }
 {
     if left % 2 == 0 {
-        steps::take_step(action, n, sizes, used, &first.view(), second, scratch)
+        steps::take_step(step, &first.view(), second, scratch)
     } else {
-        steps::take_step(action, n, sizes, used, &second.view(), first, scratch)
+        steps::take_step(step, &second.view(), first, scratch)
     }
 }
 
@@ -87,42 +74,33 @@ fn follow(
     second: &mut Store<'_>,
     scratch: &mut Scratch<'_>,
 ) -> Result<Finish, Refusal>
-    requires { Started course.now.u.now course.now.v.now course.now.schedule.now course.now.n course.now.offsets sizes
-        (columns_of first.old) (columns_of second.old) scratch.old }
-    ensures followed { Followed course.now.u.now course.now.v.now course.now.schedule.now course.now.n course.now.offsets sizes
-        (columns_of first.old) (columns_of second.old) scratch.old (columns_of first.new) result }
+    requires { Started course.now sizes (columns_of first.old) (columns_of second.old) scratch.old }
+    ensures followed { Followed course.now sizes (columns_of first.old) (columns_of second.old) scratch.old (columns_of first.new) result }
     ensures same_first { SameColumns first.old first.new }
     ensures same_second { SameColumns second.old second.new }
     ensures same_scratch { SameScratch scratch.old scratch.new }
 {
     let n = course.n;
     let steps = course.schedule.len();
-    let mut lists = Lists {
-        first: Reader {
-            bytes: course.u,
-            at: course.offsets.first,
-        },
-        second: Reader {
-            bytes: course.v,
-            at: course.offsets.second,
-        },
-    };
+    let mut lists = course.lists;
     let mut used = Used {
         nodes: NODES_A_QUBIT * n,
         values: IDENTITY_VALUES,
     };
     let mut exponent = 0;
-    for (i, step) in course.schedule.iter().enumerate() {
-        let action = choices::choose(&mut lists, *step, n);
+    for (i, byte) in course.schedule.iter().enumerate() {
+        let action = choices::choose(&mut lists, *byte, n);
+        let step = Step {
+            action,
+            n,
+            sizes,
+            used,
+        };
         let finished = i as u32;
-        used = advance(steps - i, action, n, sizes, used, first, second, scratch).map_err(
-            |fault| {
-                Refusal::Step {
-                    fault,
-                    steps: finished,
-                }
-            },
-        )?;
+        used = advance(steps - i, step, first, second, scratch).map_err(|fault| Refusal::Step {
+            fault,
+            steps: finished,
+        })?;
         exponent += choices::halves(action);
     }
     Ok(Finish {
@@ -140,10 +118,8 @@ pub fn run(
     second: &mut Store<'_>,
     scratch: &mut Scratch<'_>,
 ) -> Result<Finish, Refusal>
-    requires { Task course.now.u.now course.now.v.now course.now.schedule.now course.now.n course.now.offsets sizes
-        (columns_of first.old) (columns_of second.old) scratch.old }
-    ensures left { Left course.now.u.now course.now.v.now course.now.schedule.now course.now.n course.now.offsets sizes
-        (columns_of first.old) (columns_of second.old) scratch.old (columns_of first.new) result }
+    requires { Task course.now sizes (columns_of first.old) (columns_of second.old) scratch.old }
+    ensures left { Left course.now sizes (columns_of first.old) (columns_of second.old) scratch.old (columns_of first.new) result }
     ensures same_first { SameColumns first.old first.new }
     ensures same_second { SameColumns second.old second.new }
     ensures same_scratch { SameScratch scratch.old scratch.new }

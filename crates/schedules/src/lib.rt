@@ -12,9 +12,6 @@ pub enum ScheduleFault {
     ShortBuffer = 15,
 }
 
-// The most gates of a list.
-const GATE_LIMIT: u32 = 4096;
-
 // Whether the schedule has m zeros, p ones and no other byte.
 pub fn fits(s: &[u8], m: u32, p: u32) -> bool
     ensures { result ≡ fits m p s.now }
@@ -50,12 +47,14 @@ fn fill(m: u32, p: u32, slots: &mut [u8])
     }
 }
 
-// The proportional schedule of m and p gates, written to the front of the buffer.
+// The proportional schedule of m and p gates, written to the front of the buffer. The two counts are no struct: the C interface hands them in
+// one by one, with no list.
 pub fn proportional(m: u32, p: u32, buffer: &mut [u8]) -> Result<u32, ScheduleFault>
     ensures answer { result ≡ made m p buffer.old }
     ensures contents { buffer.new ≡ filled m p result buffer.old }
 {
-    if GATE_LIMIT < m || GATE_LIMIT < p {
+    let limit = circuits::base_limits().gates;
+    if limit < m || limit < p {
         return Err(ScheduleFault::GateCount);
     }
     let steps = m + p;

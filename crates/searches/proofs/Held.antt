@@ -25,7 +25,8 @@ use Rattle.searches.proofs.Verdicts.{verdict_ext}
 -- ---- the store in columns that begin with it
 
 -- one number of each element, and whatever comes after
-begins : {A B : Type 0} (f : A → B) (l : List A) (rest : List B) (blank : A) (i : ℕ) → i < length l → get_or (map f l ++ rest) i (f blank) ≡ f (get_or l i blank)
+begins : {A B : Type 0} (f : A → B) (l : List A) (rest : List B) (blank : A) (i : ℕ) → i < length l
+    → get_or (map f l ++ rest) i (f blank) ≡ f (get_or l i blank)
 begins f l rest blank i h = get_or-append (map f l) rest (f blank) i (omega (arith, length-map l f)) ∙ get_or-map f l i blank
 
 module _ (s : Store Entry) (rest : Columns) where

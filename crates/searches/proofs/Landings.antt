@@ -120,7 +120,8 @@ module _ (nodes values levels : ℕ) (cols : Columns) (𝓣 : Tidy 𝟘 levels (
           (by_level (eqb (get_or cols.level i 0) level) refl odd (node_seen nodes values r seen odd) (subst (From s level) is from))
       by_parity false e =
           let even : r % 2 ≡ 1 → ⊥ = eqb-false (r % 2) 1 e in
-          subst (λ (x : Ref). Stepped s nodes values level b x x) (sym (ref_value r even)) (stepped_value level b i (value_seen nodes values r seen even))
+          subst (λ (x : Ref). Stepped s nodes values level b x x) (sym (ref_value r even))
+          (stepped_value level b i (value_seen nodes values r seen even))
 
   -- past the last level there are values only
   value_last : (r : ℕ) → Seen (ref_of r) nodes values → From s levels (ref_of r) → r % 2 ≡ 1 → ⊥

@@ -1,4 +1,3 @@
-pub mod Corners
 pub mod Landings
 pub mod Verdicts
 pub mod Starts

@@ -74,10 +74,6 @@ halves_place (suc n) (x ∷ []) e = absurd (omega arith)
 halves_place zero (x ∷ (y ∷ l)) e = absurd (omega arith)
 halves_place (suc n) (x ∷ (y ∷ l)) e = ap (λ (m : Bits). x ∷ y ∷ m) (halves_place n l (omega arith))
 
-pub place_corner : (n : ℕ) → place (replicate n false) (replicate n false) ≡ replicate (levels n) false
-place_corner zero = refl
-place_corner (suc n) = ap (λ (m : Bits). false ∷ false ∷ m) (place_corner n)
-
 -- ---- what is found from the root on
 
 -- what is answered: the factor, or the place found with it
@@ -97,7 +93,8 @@ module _ (n : ℕ) (task : Task) (entry_of : ℕ → Entry) (f : Bits → ℕ) (
     pub tells_corner : eqb (f l) task.corner ≡ same_entry (g l) (corner n M)
     pub tells_zero : is_zero task.zero (f l) ≡ same_entry (g l) 𝟘
 
-  pub sought_verdict : ((l : Bits) → length l ≡ levels n → Tells l) → answered entry_of (corner n M) (sought found_at task (levels n) f 0 0) ≡ verdict n M
+  pub sought_verdict : ((l : Bits) → length l ≡ levels n → Tells l)
+      → answered entry_of (corner n M) (sought found_at task (levels n) f 0 0) ≡ verdict n M
   unfolding sought verdict
   sought_verdict tells =
       ap (λ (o : Lowest Bits). answered entry_of (corner n M) (found_from found_at f 0 0 o))

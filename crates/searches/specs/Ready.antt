@@ -1,15 +1,16 @@
--- What reading a diagram asks of the columns. Definitions only.
-use Rattle.std.specs.Prelude.{false, List, ℕ, zero, suc, ◌≤◌}
+-- What reading a diagram asks of the columns, and where it comes to. Definitions only.
+use Rattle.std.specs.Prelude.{ℕ, ◌+◌, ◌*◌, ◌-◌, ◌≤◌}
 use Rattle.algebra.specs.Entry.{𝟘}
-use Rattle.diagrams.specs.Diagram.{Tidy, levels}
+use Rattle.diagrams.specs.Diagram.{place, Tidy, levels}
+use Rattle.stores.specs.declared.Nodes.{Nodes}
 use Rattle.stores.specs.Columns.{Columns, NodeColumns, ValueColumns}
 use Rattle.diagrams.specs.Reference.{Closed}
-use Rattle.cofactors.specs.Slots.{store_in, InNodes, cofactor}
+use Rattle.cofactors.specs.Slots.{store_in, landing, bits}
 
--- the columns have the slot of each node on the way down, low at each of so many levels
-abbrev pub Descends : List ℕ → List ℕ → List ℕ → ℕ → ℕ → ℕ → Type 0
-Descends level low high zero asked r = Unit {0}
-Descends level low high (suc left) asked r = InNodes level low high r × Descends level low high left (suc asked) (cofactor level low high asked false r)
+-- the reference to the value at a row and a column, from the last of the used nodes on
+abbrev pub reference_at : Nodes → ℕ → ℕ → ℕ → ℕ → ℕ
+reference_at nodes used n row column =
+    landing nodes.level.now nodes.low.now nodes.high.now 0 (2 * (used - 1) + 1) (place (bits n row) (bits n column))
 
 -- The columns hold a store of a reduced diagram on n qubits: "no node whose low and high are alike, no two nodes alike, no value
 -- twice"; "Levels rise from parent to child and lie below 2n"; the children of its nodes are its own nodes and values. Its root

@@ -2,85 +2,61 @@
 #![tactic(auto)]
 
 ghost use Rattle.stores.specs.Columns.{columns_of, viewed, SameColumns};
-ghost use Rattle.transitions.specs.Source.{cols_of, vals_of};
 ghost use Rattle.uniques.specs.UniqueTable.{SameNodeTable, SameValueTable};
 ghost use Rattle.plans.specs.Layout.{SameScratch};
 ghost use Rattle.products.specs.Step.{Fresh};
 ghost use Rattle.products.specs.Step as product;
 ghost use Rattle.steps.specs.Stepping.{Task, Left};
-ghost use Rattle.steps.specs.Answering.{begun, Walked, Publishable, Answered};
+ghost use Rattle.steps.specs.Answering.{begun, Walked};
 
-use algebra::Entry;
 use miters::StepFault;
-use plans::{Action, Scratch, Sizes, Used};
-use stores::{Store, View};
-use transitions::Plan;
-use turns::{Phase, Work};
+use plans::{Scratch, Step};
+use stores::{Store, Used, View};
+use turns::{Planned, Work};
 use uniques::{NodeTable, ValueTable};
 
-// The planned walk, into empty tables: how far it comes. The tables are lent to it apart, since then they are known after it.
+// The planned walk, into empty tables: whether it built the product, and if not, why. It is a function of its own, since
+// within take_step the check refuses it: the tables that the work refers to are made there of the target's columns, at other lifetimes than
+// the call takes.
 fn walk<'w, 'n, 'v>(
     nodes: &'w mut NodeTable<'n>,
     values: &'w mut ValueTable<'v>,
     memo: &'w mut [u32],
-    plan: &Plan,
-    src: &View<'_>,
+    planned: &Planned<'_>,
     root: u32,
-) -> Phase
-    requires task { product.Task plan.now (cols_of src.now) (vals_of src.now) root }
-    requires fresh { Fresh plan.now (begun nodes values memo) }
+) -> Result<(), StepFault>
+    requires task { product.Task planned.now root }
+    requires fresh { Fresh planned.now (begun nodes values memo) }
     ensures same_nodes { SameNodeTable nodes.old nodes.new }
     ensures same_values { SameValueTable values.old values.new }
-    ensures walked { Walked plan.now (cols_of src.now) (vals_of src.now) root
-        nodes.old values.old nodes.new values.new result }
+    ensures walked { Walked planned.now root nodes.old values.old nodes.new values.new result }
 {
     let mut work = Work {
         nodes,
         values,
         memo,
-        phase: Phase::Building,
+        full: false,
     };
-    products::multiply(&mut work, plan, src, root);
-    work.phase
-}
-
-// What a walk comes to by its phase: its terminals go into the columns, and its counts are the answer; or why there is no product.
-fn publish(
-    phase: Phase,
-    used: Used,
-    terminals: &[Entry],
-    target: &mut Store<'_>,
-) -> Result<Used, StepFault>
-    requires { Publishable phase used terminals.now (columns_of target.old) }
-    ensures answered { Answered phase used terminals.now (columns_of target.old) (columns_of target.new) result }
-    ensures same_columns { SameColumns target.old target.new }
-{
-    match phase {
-        Phase::Building => {
-            target.publish(terminals, used.values);
-            Ok(used)
-        }
-        Phase::Full => Err(StepFault::NoRoom),
-        Phase::Outside => Err(StepFault::OutsideWidth),
+    products::multiply(&mut work, planned, root).map_err(|_| StepFault::OutsideWidth)?;
+    if work.full {
+        return Err(StepFault::NoRoom);
     }
+    Ok(())
 }
 
 // The product of the diagram in the source with a gate goes into the target: its counts, or why there is none.
 pub fn take_step(
-    action: Action,
-    n: u32,
-    sizes: Sizes,
-    used: Used,
+    step: Step,
     source: &View<'_>,
     target: &mut Store<'_>,
     scratch: &mut Scratch<'_>,
 ) -> Result<Used, StepFault>
-    requires { Task action n sizes used (viewed source.now) (columns_of target.old) scratch.old }
-    ensures left { Left action n sizes used (viewed source.now) (columns_of target.old) scratch.old (columns_of target.new) result }
+    requires { Task step (viewed source.now) (columns_of target.old) scratch.old }
+    ensures left { Left step (viewed source.now) (columns_of target.old) scratch.old (columns_of target.new) result }
     ensures same_columns { SameColumns target.old target.new }
     ensures same_scratch { SameScratch scratch.old scratch.new }
 {
-    let plan = plans::plan_step(action, n, sizes, used, source);
+    let plan = plans::plan_step(step, &source.values);
     plans::clear_tables(&plan, target.level.len(), target.a.len(), scratch);
     let mut nodes = NodeTable {
         level: target.level,
@@ -96,11 +72,16 @@ pub fn take_step(
         heads: plan.value_heads,
         used: 0,
     };
-    let root = 2 * used.nodes - 1;
-    let phase = walk(&mut nodes, &mut values, scratch.memo, &plan, source, root);
+    let planned = Planned {
+        plan: &plan,
+        source: *source,
+    };
+    let root = step.used.root();
+    walk(&mut nodes, &mut values, scratch.memo, &planned, root)?;
     let built = Used {
         nodes: nodes.used,
         values: values.used,
     };
-    publish(phase, built, scratch.terminals, target)
+    target.publish(&scratch.terminals[..built.values as usize]);
+    Ok(built)
 }

@@ -6,8 +6,9 @@ use Prim.Native.Nat.{ℕ, ◌+◌, ◌-◌, ◌<◌, ◌≤◌}
 use native.Mathlib.Nat.{le_refl}
 use native.Mathlib.Omega.{arith}
 use lib.IntN.{ℤ, pos}
-use lib.ListN.{length, length-set, get_or, set, take, drop, replicate, length-append, length-drop, length-map, take-append-drop, get_or-append, get_or-map}
-use lib.Seq.{take_at, ext_get_or}
+use lib.ListN.{length, length-set, get_or, set, take, drop, replicate, length-append, length-drop, length-map}
+use lib.ListN.{take-append-drop, get_or-append, get_or-map}
+use lib.Seq.{take_at, take-length, ext_get_or}
 use borrow.Rule.Slice.PartMut.{put_mid}
 use Rattle.algebra.specs.declared.Entry.{Entry}
 use Rattle.algebra.specs.Entry.{entry, 𝟘}
@@ -55,8 +56,8 @@ module _ (vals : List Entry) (C : Columns) where
       nodes = record { same_level = h.nodes.same_level; same_low = h.nodes.same_low; same_high = h.nodes.same_high };
     }
 
-    pub publishing_all : Published (values_in j vals) C C'
-    publishing_all = record {
+    pub publishing_all : j ≡ length vals → Published vals C C'
+    publishing_all all = record {
       of_a = h.of_a ∙ numbers (λ x. x.a) C.a;
       of_b = h.of_b ∙ numbers (λ x. x.b) C.b;
       of_c = h.of_c ∙ numbers (λ x. x.c) C.c;
@@ -64,11 +65,17 @@ module _ (vals : List Entry) (C : Columns) where
       nodes = h.nodes;
     }
       where
-        numbers : (f : Entry → ℤ) (l : List ℤ) → filled (λ i. f (value_in vals i)) l j ≡ over (map f (values_in j vals)) l
-        numbers f l = filled_over (λ i. f (value_in vals i)) l j ∙ ap (λ (m : List ℤ). over m l) (sym (map_listed f j (value_in vals)))
+        values_are : values_in j vals ≡ vals
+        values_are = rw all (listed_take vals 𝟘 (length vals) (le_refl (length vals)) ∙ take-length vals)
+
+        numbers : (f : Entry → ℤ) (l : List ℤ) → filled (λ i. f (value_in vals i)) l j ≡ over (map f vals) l
+        numbers f l =
+            filled_over (λ i. f (value_in vals i)) l j
+            ∙ ap (λ (m : List ℤ). over m l) (sym (map_listed f j (value_in vals)) ∙ ap (map f) values_are)
 
 -- values and then nodes written are a store written
-pub store_written : {ns : List Node} {vs : List Entry} {C C₁ C' : Columns} → Published vs C C₁ → NodesWritten ns C₁ C' → C' ≡ written (holding ns vs) C
+pub store_written : {ns : List Node} {vs : List Entry} {C C₁ C' : Columns} → Published vs C C₁ → NodesWritten ns C₁ C'
+    → C' ≡ written (holding ns vs) C
 unfolding written
 store_written {ns} v n i = columns
     (over_same (map (λ (m : Node). m.level) ns) n.of_level v.nodes.same_level i)
@@ -90,8 +97,7 @@ pub part_wiped : {A : Type 0} (nought : A) (l : List A) (from : ℕ) {part : Lis
     → put_mid from (length l - from) l part ≡ column nought (length l) (take from l)
 part_wiped nought l from fits is = part_zeroed nought l from (length l) fits (le_refl (length l)) is ∙ zeroed_column nought l from fits
 
--- ---- wiped
-
+-- seven columns whose slots past the used ones are 0 are the wiped columns
 pub wipes : {nodes values : ℕ} {C C' : Columns} → NodeColumns C nodes → ValueColumns C values
     → C'.level ≡ zeroed 0 nodes (length C.level) C.level → C'.low ≡ zeroed 0 nodes (length C.low) C.low
     → C'.high ≡ zeroed 0 nodes (length C.high) C.high

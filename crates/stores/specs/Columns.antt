@@ -1,11 +1,14 @@
 -- A store in its lent columns. Definitions only; their laws are in proofs/Columns.antt, proofs/Filling.antt
 -- and proofs/Stores.antt.
-use Rattle.std.specs.Prelude.{◌≡◌, cond, List, ◌++◌, map, Option, Some, None, ℕ, ◌-◌, ◌*◌, ◌≤◌, ltb, ℤ, pos, length, get_or, take, drop, replicate}
+use Rattle.std.specs.Prelude.{◌≡◌, cond, List, [], ◌++◌, map, Option, Some, None, ℕ, ◌-◌, ◌*◌, ◌≤◌, ltb, ℤ, pos}
+use Rattle.std.specs.Prelude.{length, get_or, take, drop, replicate}
 use Rattle.algebra.specs.declared.Entry.{Entry}
 use Rattle.algebra.specs.Entry.{entry, 𝟘}
 use Rattle.diagrams.specs.Diagram.{Node, code, Store, slot, same_entry}
 use Rattle.uniques.specs.UniqueTable.{listed}
 use Rattle.stores.specs.declared.Store.{Store as LentStore}
+use Rattle.stores.specs.declared.Nodes.{Nodes}
+use Rattle.stores.specs.declared.Values.{Values}
 use Rattle.stores.specs.declared.View.{View}
 
 -- "Each has three node columns (level, low, high; unsigned 32-bit) of one length N .. and four value columns (a, b, c, d;
@@ -28,7 +31,14 @@ columns_of s = columns s.level.now s.low.now s.high.now s.a.now s.b.now s.c.now 
 
 -- the same, read only
 abbrev pub viewed : View → Columns
-viewed v = columns v.level.now v.low.now v.high.now v.a.now v.b.now v.c.now v.d.now
+viewed v = columns v.nodes.level.now v.nodes.low.now v.nodes.high.now v.values.a.now v.values.b.now v.values.c.now v.values.d.now
+
+-- the node columns alone, and the value columns alone
+abbrev pub node_columns : Nodes → Columns
+node_columns n = columns n.level.now n.low.now n.high.now [] [] [] []
+
+abbrev pub value_columns : Values → Columns
+value_columns v = columns [] [] [] v.a.now v.b.now v.c.now v.d.now
 
 -- the store with ' lends the columns that the other does, each as long as it was, whatever stands in them now
 pub record SameColumns (s s' : LentStore) : Type 0 where
@@ -125,7 +135,7 @@ wiped nodes values C = record {
 
 -- ---- the node columns
 
--- their first slots are there
+-- their first slots are there: a fact and no invariant of a store, since the call takes columns of any lengths and refuses what does not fit
 pub record NodeColumns (C : Columns) (used : ℕ) : Type 0 where
   pub in_level : used ≤ length C.level
   pub in_low : used ≤ length C.low
@@ -139,7 +149,7 @@ pub record SameNodes (C C' : Columns) : Type 0 where
 
 -- ---- the value columns
 
--- their first slots are there
+-- their first slots are there, which is a fact for the same reason
 pub record ValueColumns (C : Columns) (used : ℕ) : Type 0 where
   pub in_a : used ≤ length C.a
   pub in_b : used ≤ length C.b

@@ -11,12 +11,14 @@ use lib.Arith.{digits_lt, digits_div, digits_mod}
 use lib.Dec.{eqb, lit<}
 use lib.ListN.{length}
 use borrow.Author.Tests.{eqb-true, eqb-false, eq-eqb, ne_eqb, lt-ltb}
+use Rattle.uniques.specs.UniqueTable.{spread}
 use Rattle.transitions.specs.declared.Mode.{Mode}
 use Rattle.transitions.specs.declared.Mode.TheVariants.{Turning, Adding, Subtracting, Waiting, Swapping, Choosing}
 use Rattle.transitions.specs.declared.State.{State}
 use Rattle.transitions.specs.Plan.{Plan}
 use Rattle.transitions.specs.Next.{mode_code, Coded, Once}
 use Rattle.transitions.proofs.Codes.{mode_code_once}
+use Rattle.tables.specs.declared.Placed.{Placed}
 use Rattle.tables.specs.Table.{region, bucket, slot_of, table_end, TableSizes, InTable, AtSlot}
 
 -- ---- a mode's region
@@ -73,6 +75,7 @@ pub share_limit : (mixed slots : ℕ) → 1 ≤ slots → mixed % 65536 * slots 
 share_limit mixed slots some = omega (arith, digits_lt (mod-lt mixed {m = 65536} (lit< tt)) some)
 
 pub bucket_limit : (slots x y mode : ℕ) → 1 ≤ slots → bucket slots x y mode < slots
+unfolding spread
 bucket_limit slots x y mode some = (div-lt_iff_lt-mul (lit< tt)).1 (share_limit _ slots some)
 
 -- ---- where it lies
@@ -94,8 +97,8 @@ pub entry_room : (plan : Plan) (σ : State) → TableSizes plan → InTable plan
 entry_room plan σ sizes place past =
     omega (arith, entry_slot plan σ place past, bucket_limit plan.slots σ.x σ.y (mode_code σ.mode) sizes.some_slots)
 
-pub at_room : {plan : Plan} {memo : List ℕ} {at : ℕ} {σ : State} → AtSlot plan memo at σ → 3 * plan.span ≤ at → at + 4 ≤ length memo
-at_room {plan} {memo} {at} {σ} s past = omega (arith, s.table.room, s.slot, entry_room plan σ s.table.sizes s.place (omega (arith, s.slot)))
+pub at_room : {plan : Plan} {memo : List ℕ} {p : Placed} → AtSlot plan memo p → 3 * plan.span ≤ p.at → p.at + 4 ≤ length memo
+at_room {plan} {memo} {p} s past = omega (arith, s.table.room, s.slot, entry_room plan p.state s.table.sizes s.place (omega (arith, s.slot)))
 
 -- ---- a number of a region belongs to one state
 

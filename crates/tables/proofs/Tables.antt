@@ -43,7 +43,7 @@ unfolding recalled
 recalled_number plan memo σ below = rw (lt-ltb _ _ below)
 
 recalled_entry : (plan : Plan) (memo : List ℕ) (σ : State) → 3 * plan.span ≤ slot_of plan σ →
-    recalled plan memo σ ≡ cond (entered memo (slot_of plan σ) σ) (Some (get_or memo (slot_of plan σ + 3) 0)) None
+    recalled plan memo σ ≡ told (cond (entered memo (slot_of plan σ) σ) (get_or memo (slot_of plan σ + 3) 0) 0)
 unfolding recalled
 recalled_entry plan memo σ past = rw (le-ltb _ _ past)
 
@@ -90,14 +90,14 @@ recalled_by_own plan memo memo' τ agree = by_side (side_of plan τ)
 
 -- ---- noting
 
--- x, y, the mode and one more, and the answer, written at a place
+-- x, y, the mode and one more, and what is kept of an answer, written at a place
 abbrev written : List ℕ → ℕ → State → ℕ → List ℕ
-written memo at σ answer = set (set (set (set memo at σ.x) (at + 1) σ.y) (at + 2) (mode_code σ.mode + 1)) (at + 3) answer
+written memo at σ held = set (set (set (set memo at σ.x) (at + 1) σ.y) (at + 2) (mode_code σ.mode + 1)) (at + 3) held
 
 -- the two ways of noting
 data Noting (plan : Plan) (memo : List ℕ) (σ : State) (answer : ℕ) : Type 0 where
   in_number : slot_of plan σ < 3 * plan.span → noted plan memo σ answer ≡ set memo (slot_of plan σ) (kept_as answer) → Noting plan memo σ answer
-  in_entry : 3 * plan.span ≤ slot_of plan σ → noted plan memo σ answer ≡ written memo (slot_of plan σ) σ answer → Noting plan memo σ answer
+  in_entry : 3 * plan.span ≤ slot_of plan σ → noted plan memo σ answer ≡ written memo (slot_of plan σ) σ (kept_as answer) → Noting plan memo σ answer
 
 noted_by : (plan : Plan) (memo : List ℕ) (σ : State) (answer : ℕ) → Noting plan memo σ answer
 unfolding noted
@@ -129,8 +129,8 @@ noted_other plan memo σ answer i strange = by_way (noted_by plan memo σ answer
         let s = off 3 (lit< tt) in
         ap (λ (l : List ℕ). get_or l i 0) is ∙ simp get_or-set_other
 
-module _ (memo : List ℕ) (at : ℕ) (σ : State) (answer : ℕ) (room : at + 4 ≤ length memo) where
-  written_x : get_or (written memo at σ answer) at 0 ≡ σ.x
+module _ (memo : List ℕ) (at : ℕ) (σ : State) (held : ℕ) (room : at + 4 ≤ length memo) where
+  written_x : get_or (written memo at σ held) at 0 ≡ σ.x
   written_x =
       let p : at ≢ at + 1 = omega arith in
       let q : at ≢ at + 2 = omega arith in
@@ -138,21 +138,21 @@ module _ (memo : List ℕ) (at : ℕ) (σ : State) (answer : ℕ) (room : at + 4
       let inside : at < length memo = omega arith in
       simp (get_or-set_other, get_or-set_same)
 
-  written_y : get_or (written memo at σ answer) (at + 1) 0 ≡ σ.y
+  written_y : get_or (written memo at σ held) (at + 1) 0 ≡ σ.y
   written_y =
       let q : at + 1 ≢ at + 2 = omega arith in
       let r : at + 1 ≢ at + 3 = omega arith in
       let inside : at + 1 < length memo = omega arith in
       simp (get_or-set_other, get_or-set_same, lt-length-set)
 
-  written_mode : get_or (written memo at σ answer) (at + 2) 0 ≡ mode_code σ.mode + 1
+  written_mode : get_or (written memo at σ held) (at + 2) 0 ≡ mode_code σ.mode + 1
   written_mode =
       let r : at + 2 ≢ at + 3 = omega arith in
       let inside : at + 2 < length memo = omega arith in
       simp (get_or-set_other, get_or-set_same, lt-length-set)
 
-  written_answer : get_or (written memo at σ answer) (at + 3) 0 ≡ answer
-  written_answer = let inside : at + 3 < length memo = omega arith in simp (get_or-set_same, lt-length-set)
+  written_held : get_or (written memo at σ held) (at + 3) 0 ≡ held
+  written_held = let inside : at + 3 < length memo = omega arith in simp (get_or-set_same, lt-length-set)
 
 -- ---- recalling after noting
 
@@ -192,37 +192,41 @@ module _ (plan : Plan) (memo : List ℕ) (σ τ : State) (answer : ℕ) (fits : 
       told (kept_as answer) ∎
 
   entry_recalled : slot_of plan τ ≡ slot_of plan σ → 3 * plan.span ≤ slot_of plan σ →
-      recalled plan (written memo (slot_of plan σ) σ answer) τ ≡
-      cond (eqb (mode_code σ.mode + 1) (mode_code τ.mode + 1) && (eqb σ.x τ.x && eqb σ.y τ.y)) (Some answer) None
+      recalled plan (written memo (slot_of plan σ) σ (kept_as answer)) τ ≡
+      told (cond (eqb (mode_code σ.mode + 1) (mode_code τ.mode + 1) && (eqb σ.x τ.x && eqb σ.y τ.y)) (kept_as answer) 0)
   entry_recalled same past =
       let at = slot_of plan σ in
+      let held = kept_as answer in
       let room : at + 4 ≤ length memo = omega (arith, fits.room, entry_room plan σ fits.sizes in_σ past) in
-      recalled_entry plan (written memo at σ answer) τ (rw same past) ∙
-      rw (same, written_x memo at σ answer room, written_y memo at σ answer room, written_mode memo at σ answer room, written_answer memo at σ answer room)
+      recalled_entry plan (written memo at σ held) τ (rw same past) ∙
+      rw (same, written_x memo at σ held room, written_y memo at σ held room, written_mode memo at σ held room, written_held memo at σ held room)
+
+  -- where the slot has what was kept for σ, and that is τ
+  by_told : τ ≡ σ → recalled plan (noted plan memo σ answer) τ ≡ told (kept_as answer) → AfterNoting plan memo σ answer τ
+  by_told alone is = by_case (told_kept answer)
+    where
+      by_case : (told (kept_as answer) ≡ None) ⊎ (told (kept_as answer) ≡ Some answer) → AfterNoting plan memo σ answer τ
+      by_case (inl none) = lost (is ∙ none)
+      by_case (inr some) = fresh alone (is ∙ some)
 
   recalled_same : slot_of plan τ ≡ slot_of plan σ → Noting plan memo σ answer → AfterNoting plan memo σ answer τ
-  recalled_same same (in_number below is) = by_told (told_kept answer)
-    where
-      now_told : recalled plan (noted plan memo σ answer) τ ≡ told (kept_as answer)
-      now_told = ap (λ (l : List ℕ). recalled plan l τ) is ∙ number_recalled same below
-
-      by_told : (told (kept_as answer) ≡ None) ⊎ (told (kept_as answer) ≡ Some answer) → AfterNoting plan memo σ answer τ
-      by_told (inl none) = lost (now_told ∙ none)
-      by_told (inr some) = fresh (alone_same plan σ τ fits.sizes in_σ in_τ below same) (now_told ∙ some)
+  recalled_same same (in_number below is) =
+      by_told (alone_same plan σ τ fits.sizes in_σ in_τ below same) (ap (λ (l : List ℕ). recalled plan l τ) is ∙ number_recalled same below)
   recalled_same same (in_entry past is) = by_tests (eqb (mode_code σ.mode + 1) (mode_code τ.mode + 1)) (eqb σ.x τ.x) (eqb σ.y τ.y) refl refl refl
     where
       now_is : recalled plan (noted plan memo σ answer) τ
-          ≡ cond (eqb (mode_code σ.mode + 1) (mode_code τ.mode + 1) && (eqb σ.x τ.x && eqb σ.y τ.y)) (Some answer) None
+          ≡ told (cond (eqb (mode_code σ.mode + 1) (mode_code τ.mode + 1) && (eqb σ.x τ.x && eqb σ.y τ.y)) (kept_as answer) 0)
       now_is = ap (λ (l : List ℕ). recalled plan l τ) is ∙ entry_recalled same past
 
-      by_tests : (p q r : Bool) → eqb (mode_code σ.mode + 1) (mode_code τ.mode + 1) ≡ p → eqb σ.x τ.x ≡ q → eqb σ.y τ.y ≡ r → AfterNoting plan memo σ answer τ
+      by_tests : (p q r : Bool) → eqb (mode_code σ.mode + 1) (mode_code τ.mode + 1) ≡ p → eqb σ.x τ.x ≡ q → eqb σ.y τ.y ≡ r
+          → AfterNoting plan memo σ answer τ
       by_tests false q r e f g = lost (now_is ∙ rw e)
       by_tests true false r e f g = lost (now_is ∙ rw (e, f))
       by_tests true true false e f g = lost (now_is ∙ rw (e, f, g))
       by_tests true true true e f g =
           let numbers : mode_code σ.mode + 1 ≡ mode_code τ.mode + 1 = eqb-true _ _ e in
           let modes : τ.mode ≡ σ.mode = mode_code_once τ.mode σ.mode in_τ.coded in_σ.coded (omega arith) in
-          fresh (same_state (sym (eqb-true _ _ f)) (sym (eqb-true _ _ g)) modes) (now_is ∙ rw (e, f, g))
+          by_told (same_state (sym (eqb-true _ _ f)) (sym (eqb-true _ _ g)) modes) (now_is ∙ rw (e, f, g))
 
   pub recalled_noted : AfterNoting plan memo σ answer τ
   recalled_noted = by_test (eqb (slot_of plan τ) (slot_of plan σ)) refl
@@ -231,7 +235,7 @@ module _ (plan : Plan) (memo : List ℕ) (σ τ : State) (answer : ℕ) (fits : 
       by_test true e = recalled_same (eqb-true _ _ e) (noted_by plan memo σ answer)
       by_test false e = kept (recalled_apart (eqb-false _ _ e))
 
--- every outcome is kept, want of room like any reference: what was noted last of a state is recalled
+-- every outcome but the last number is kept, want of room like any reference: what was noted last of a state is recalled
 pub noted_recalled : (plan : Plan) (memo : List ℕ) (σ : State) (answer : ℕ) → TableFits plan memo → InTable plan σ → answer < unkept →
     recalled plan (noted plan memo σ answer) σ ≡ Some answer
 noted_recalled plan memo σ answer fits in_σ known = by_way (noted_by plan memo σ answer)
@@ -241,19 +245,12 @@ noted_recalled plan memo σ answer fits in_σ known = by_way (noted_by plan memo
         ap (λ (l : List ℕ). recalled plan l σ) is ∙ number_recalled plan memo σ σ answer fits in_σ in_σ refl below ∙ told_known answer known
     by_way (in_entry past is) =
         ap (λ (l : List ℕ). recalled plan l σ) is ∙ entry_recalled plan memo σ σ answer fits in_σ in_σ refl past ∙
-        rw (eq-eqb (mode_code σ.mode + 1) (mode_code σ.mode + 1) refl, eq-eqb σ.x σ.x refl, eq-eqb σ.y σ.y refl)
+        rw (eq-eqb (mode_code σ.mode + 1) (mode_code σ.mode + 1) refl, eq-eqb σ.x σ.x refl, eq-eqb σ.y σ.y refl) (told_known answer known)
 
 -- ---- every answer that is recalled is right
 
 none_some : {a : ℕ} → None ≡ Some a → ⊥
 none_some e = cc
-
-pub all_right_cleared : (Right : State → ℕ → Type 0) (plan : Plan) (memo : List ℕ) (to : ℕ) → TableSizes plan → table_end plan ≤ to →
-    AllRight Right plan (cleared to memo)
-all_right_cleared Right plan memo to sizes far = record {
-  right = λ τ in_τ found is.
-      absurd (none_some (sym (recalled_zeros plan (cleared to memo) τ sizes in_τ (λ i lt. cleared_zero to memo i (omega arith))) ∙ is));
-}
 
 pub all_right_noted : (Right : State → ℕ → Type 0) (plan : Plan) (memo : List ℕ) (σ : State) (answer : ℕ) → TableFits plan memo → InTable plan σ →
     AllRight Right plan memo → Right σ answer → AllRight Right plan (noted plan memo σ answer)
@@ -267,8 +264,8 @@ all_right_noted Right plan memo σ answer fits in_σ known found = record {
     by_case τ in_τ a told (kept is) = known.right τ in_τ a (sym is ∙ told)
     by_case τ in_τ a told (fresh same is) = let one : answer ≡ a = cc in rw (same, ← one) found
 
-pub all_right_weaken : (Right Right' : State → ℕ → Type 0) (plan : Plan) (memo : List ℕ) → ((σ : State) (answer : ℕ) → Right σ answer → Right' σ answer) →
-    AllRight Right plan memo → AllRight Right' plan memo
+pub all_right_weaken : (Right Right' : State → ℕ → Type 0) (plan : Plan) (memo : List ℕ)
+    → ((σ : State) (answer : ℕ) → Right σ answer → Right' σ answer) → AllRight Right plan memo → AllRight Right' plan memo
 all_right_weaken Right Right' plan memo weaken known = record { right = λ σ in_σ a told. weaken σ a (known.right σ in_σ a told) }
 
 -- ---- the table goes on fitting

@@ -2,90 +2,87 @@
 // lent slice, in three regions and then entries of four, since the memory is fixed and each step divides it anew.
 #![tactic(auto)]
 
-ghost use Rattle.std.specs.Prelude.{◌≡◌, ◌≤◌, length};
+ghost use Rattle.std.specs.Prelude.{◌≡◌, ◌≤◌};
 ghost use Rattle.transitions.specs.Plan.{plan_of};
-ghost use Rattle.tables.specs.Table.{slot_of, recalled, noted, TableSizes, AtSlot, table_size, cleared};
+ghost use Rattle.tables.specs.Table.{placed, recalled, noted, TableSizes, AtSlot, table_size};
 
 use transitions::{Mode, Plan, State};
 
-// Where the table has a state: a number of one of three regions, or an entry of four.
+// A state, and where the table has it: a number of one of three regions, or an entry of four. One slice holds both, so where a slot is says
+// which of the two it is, and no enum says it again.
+#[derive(Clone, Copy)]
+pub struct Placed {
+    pub state: State,
+    pub at: usize,
+}
+
+// A state with its slot. Modes are compared by number, since the table keeps a mode by its number: the promise names the slot of any mode,
+// also of one whose number is another's, as Turning(16)'s is Waiting(0)'s.
 #[inline]
-#[tactic(auto, unfolding(crate::specs::Table::slot_of))]
-pub fn slot(plan: &Plan, state: State) -> usize
+#[tactic(auto, using(crate::proofs::Slots::bucket_limit), unfolding(crate::specs::Table::slot_of))]
+pub fn place(plan: &Plan, state: State) -> Placed
     requires { TableSizes (plan_of plan.now) }
-    ensures { result ≡ slot_of (plan_of plan.now) state }
+    ensures { result ≡ placed (plan_of plan.now) state }
 {
     let State { x, y, mode } = state;
     let span = plan.span as usize;
-    let number = mode.number();
-    if number == plan.phases.zero as u64 {
-        return x as usize;
-    }
-    if number == plan.phases.one as u64 {
-        return span + x as usize;
-    }
-    if number == Mode::Waiting(0).number() {
-        return 2 * span + x as usize;
-    }
-    let mixed = (x % 131072) as u64 * 679488061819
-        + (y % 131072) as u64 * 836218895663
-        + number % 1024 * 923031386221;
-    3 * span + 4 * ((mixed / 1048576 % 65536 * plan.slots as u64 / 65536) as usize)
+    let number = u64::from(mode);
+    let at = if number == u64::from(plan.phases.zero) {
+        x as usize
+    } else if number == u64::from(plan.phases.one) {
+        span + x as usize
+    } else if number == u64::from(Mode::Waiting(0)) {
+        2 * span + x as usize
+    } else {
+        3 * span + 4 * uniques::spread(x, y, number, plan.slots)
+    };
+    Placed { state, at }
 }
 
-// What is known of a state, given its slot. A number of a region is 0, or the answer and one more.
+// What is known of a state: what is kept for it is 0, or the answer and one more.
 #[inline]
 #[tactic(auto, using(crate::proofs::Slots::at_room), unfolding(crate::specs::Table::recalled))]
-pub fn recall(memo: &[u32], plan: &Plan, at: usize, state: State) -> Option<u32>
-    requires { AtSlot (plan_of plan.now) memo.now at state }
-    ensures { result ≡ recalled (plan_of plan.now) memo.now state }
+pub fn recall(memo: &[u32], plan: &Plan, placed: Placed) -> Option<u32>
+    requires { AtSlot (plan_of plan.now) memo.now placed }
+    ensures { result ≡ recalled (plan_of plan.now) memo.now placed.state }
 {
+    let Placed { state, at } = placed;
     if at < 3 * plan.span as usize {
         return memo[at].checked_sub(1);
     }
-    let same_mode = memo[at + 2] as u64 == state.mode.number() + 1;
+    let same_mode = u64::from(memo[at + 2]) == u64::from(state.mode) + 1;
     if same_mode && memo[at] == state.x && memo[at + 1] == state.y {
-        return Some(memo[at + 3]);
+        return memo[at + 3].checked_sub(1);
     }
     None
 }
 
-// Keep what was found for a state, given its slot.
+// Keep what was found for a state. The last answer has no number one more, and is not kept. An entry's numbers are written one by one: by
+// copy_from_slice, which was proved too, machine code puts the four on the stack and looks for an overlap before it copies them.
 #[inline]
 #[tactic(auto, using(crate::proofs::Slots::at_room), unfolding(crate::specs::Table::noted))]
-pub fn note(memo: &mut [u32], plan: &Plan, at: usize, state: State, answer: u32)
-    requires { AtSlot (plan_of plan.now) memo.old at state }
-    ensures { memo.new ≡ noted (plan_of plan.now) memo.old state answer }
+pub fn note(memo: &mut [u32], plan: &Plan, placed: Placed, answer: u32)
+    requires { AtSlot (plan_of plan.now) memo.old placed }
+    ensures { memo.new ≡ noted (plan_of plan.now) memo.old placed.state answer }
 {
+    let Placed { state, at } = placed;
+    let kept = answer.checked_add(1).unwrap_or(0);
     if at < 3 * plan.span as usize {
-        // the last answer has no number one more, and is not kept
-        memo[at] = if answer < u32::MAX { answer + 1 } else { 0 };
+        memo[at] = kept;
         return;
     }
     memo[at] = state.x;
     memo[at + 1] = state.y;
-    memo[at + 2] = (state.mode.number() + 1) as u32;
-    memo[at + 3] = answer;
+    memo[at + 2] = (u64::from(state.mode) + 1) as u32;
+    memo[at + 3] = kept;
 }
 
-// The size of a table for so many nodes: the least, doubled until it suffices, but at most the most. A loop, since the library's next power
-// of two starts from 1 and not from a least size.
-pub fn table_size(nodes: u32, least: u32, most: u32) -> u32
+// The size of a table for so many nodes, or values: the least, doubled until it suffices, but at most the most.
+pub fn table_size(count: u32, least: u32, most: u32) -> u32
     requires { 1 ≤ least }
-    ensures { result ≡ table_size nodes least most }
+    ensures { result ≡ table_size count least most }
 {
-    let wanted = 2 * nodes as u64;
-    let mut size = least as u64;
-    while size < wanted {
-        size = 2 * size;
-    }
-    size.min(most as u64) as u32
-}
-
-// The first numbers become 0.
-pub fn clear_table(memo: &mut [u32], to: usize)
-    requires { to ≤ length memo.old }
-    ensures { memo.new ≡ cleared to memo.old }
-{
-    memo[..to].fill(0);
+    let (wanted, least) = (2 * u64::from(count), u64::from(least));
+    let size = least * wanted.div_ceil(least).next_power_of_two();
+    size.min(u64::from(most)) as u32
 }

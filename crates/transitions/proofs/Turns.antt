@@ -31,4 +31,5 @@ module _ (plan : Plan) (s : Store Entry) (level k : ℕ) (b : Bool) (own : ℕ) 
   swapping_clear seen x y control clear own_is =
       rw (eq-eqb _ _ here, ne_eqb _ _ control)
       (ap (on_one (Turning 0)) own_is
-      ∙ cond_false b (on_both (Swapping (suc k) seen) (cofactor s level b x) (cofactor s level b y)) (on_one (Turning 0) (cofactor s level b x)) clear)
+      ∙ cond_false b (on_both (Swapping (suc k) seen) (cofactor s level b x) (cofactor s level b y))
+      (on_one (Turning 0) (cofactor s level b x)) clear)

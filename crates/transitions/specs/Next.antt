@@ -3,7 +3,7 @@ use Rattle.std.specs.Prelude.{◌≡◌, Bool, true, false, not, cond, ◌&&◌,
 use Rattle.std.specs.Bool.{beq}
 use Rattle.algebra.specs.declared.Entry.{Entry}
 use Rattle.algebra.specs.Entry.{𝟘, ◌⊕◌, ◌⊖◌, turned}
-use Rattle.gates.specs.Rule.{phase, flipped}
+use Rattle.gates.specs.Rule.{phase, flipped, does_mix, does_swap}
 use Rattle.diagrams.specs.Diagram.{Ref, value, node, code, Store, node_at, reached, ref_of}
 use Rattle.transitions.specs.declared.Mode.{Mode}
 use Rattle.transitions.specs.declared.Mode.TheVariants.{Turning, Adding, Subtracting, Waiting, Swapping, Choosing}
@@ -73,9 +73,9 @@ chosen plan k e x y =
 -- the target's question, with the controls from stage k on still to come
 unfoldable pub at_target : Plan → Store Entry → ℕ → Bool → ℕ → ℕ → State
 at_target plan s level b k x = cond
-    plan.mixes
+    (does_mix plan.act)
     (paired plan b (cofactor s level false x) (cofactor s level true x))
-    (cond plan.swaps
+    (cond (does_swap plan.act)
     (on_both (Swapping k b) (cofactor s level b x) (cofactor s level (not b) x))
     (chosen plan k (phase plan.phases b) (cofactor s level b x) (cofactor s level (flipped (plan_rule plan) b) x)))
 

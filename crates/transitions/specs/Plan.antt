@@ -1,11 +1,10 @@
 -- The plan of a step, as the laws read it. Definitions only.
-use Rattle.std.specs.Prelude.{Bool, true, false, not, ◌&&◌, ◌||◌, ℕ, zero, suc, eqb, Option, Some, None, get_or}
+use Rattle.std.specs.Prelude.{Bool, false, not, ◌&&◌, ◌||◌, ℕ, zero, suc, eqb, Option, Some, None, get_or}
+use Rattle.gates.specs.declared.Act.{Act}
 use Rattle.gates.specs.declared.Code.TheVariants.{X}
 use Rattle.gates.specs.declared.Phases.{Phases}
 use Rattle.gates.specs.declared.Operands.TheVariants.{Qubit}
 use Rattle.gates.specs.declared.Rule.{Rule}
-use Rattle.transitions.specs.declared.Act.{Act}
-use Rattle.transitions.specs.declared.Act.TheVariants.{Moves, Mixes, Swaps}
 use Rattle.transitions.specs.declared.Plan.{Plan as CodePlan}
 
 pub record Plan : Type 0 where
@@ -13,9 +12,7 @@ pub record Plan : Type 0 where
   pub stages : ℕ
   pub target : ℕ
   pub second : ℕ
-  pub flips : Bool
-  pub mixes : Bool
-  pub swaps : Bool
+  pub act : Act
   pub phases : Phases
   pub zero : Option ℕ
   pub node_heads : ℕ
@@ -25,25 +22,13 @@ pub record Plan : Type 0 where
   pub levels : ℕ
   pub span : ℕ
 
-abbrev pub does_mix : Act → Bool
-does_mix Moves = false
-does_mix Mixes = true
-does_mix Swaps = false
-
-abbrev pub does_swap : Act → Bool
-does_swap Moves = false
-does_swap Mixes = false
-does_swap Swaps = true
-
 abbrev pub plan_of : CodePlan → Plan
 plan_of p = record {
   stage = λ s. get_or p.stages s 0;
   stages = p.stage_count;
   target = p.target;
   second = p.second;
-  flips = p.flips;
-  mixes = does_mix p.act;
-  swaps = does_swap p.act;
+  act = p.act;
   phases = p.phases;
   zero = p.zero;
   node_heads = p.node_heads;
@@ -63,9 +48,7 @@ is_zero (Some z) x = eqb x z
 abbrev pub plan_rule : Plan → Rule
 plan_rule plan = record {
   operands = Qubit;
-  mixes = plan.mixes;
-  flips = plan.flips;
-  swaps = plan.swaps;
+  act = plan.act;
   right = plan.phases;
   left = plan.phases;
   inverse = X;

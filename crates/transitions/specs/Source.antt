@@ -4,19 +4,20 @@ use Rattle.algebra.specs.declared.Entry.{Entry}
 use Rattle.algebra.specs.Entry.{𝟘, entry}
 use Rattle.diagrams.specs.Diagram.{Ref, code, Store, node_at, ref_of}
 use Rattle.diagrams.specs.Reference.{Seen}
-use Rattle.stores.specs.declared.View.{View}
+use Rattle.stores.specs.declared.Nodes.{Nodes}
+use Rattle.stores.specs.declared.Values.{Values}
 use Rattle.transitions.specs.declared.State.{State}
 use Rattle.transitions.specs.Next.{is_leaf}
 
 -- ---- the columns
 
 -- level, low, high
-abbrev pub cols_of : View → List (List ℕ)
-cols_of src = src.level.now ∷ src.low.now ∷ src.high.now ∷ []
+abbrev pub cols_of : Nodes → List (List ℕ)
+cols_of nodes = nodes.level.now ∷ nodes.low.now ∷ nodes.high.now ∷ []
 
 -- a, b, c, d
-abbrev pub vals_of : View → List (List ℤ)
-vals_of src = src.a.now ∷ src.b.now ∷ src.c.now ∷ src.d.now ∷ []
+abbrev pub vals_of : Values → List (List ℤ)
+vals_of values = values.a.now ∷ values.b.now ∷ values.c.now ∷ values.d.now ∷ []
 
 -- ---- the columns hold a store
 
@@ -48,7 +49,7 @@ pub record SourceHeld (s : Store Entry) (cols : List (List ℕ)) (vals : List (L
 abbrev pub Refers : Store Entry → Ref → Type 0
 Refers s r = Seen r (length s.nodes) (length s.values)
 
--- where the reference is to a node, every column has its slot
+-- where the reference is to a node, every column has its slot: a fact of a reference and of columns, which no one type owns
 abbrev pub Readable : List (List ℕ) → ℕ → Type 0
 Readable cols x = x % 2 ≡ 1 → (c : ℕ) → c < 3 → x / 2 < length (get_or cols c [])
 

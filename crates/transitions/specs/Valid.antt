@@ -2,6 +2,7 @@
 use Rattle.std.specs.Prelude.{◌≡◌, true, false, List, ℕ, suc, ◌+◌, ◌*◌, ◌<◌, ◌≤◌, Option, Some, length, get_or}
 use Rattle.algebra.specs.declared.Entry.{Entry}
 use Rattle.algebra.specs.Entry.{𝟘}
+use Rattle.gates.specs.Rule.{does_mix, does_swap}
 use Rattle.diagrams.specs.Diagram.{Store, node_at, Both, From, ref_of}
 use Rattle.diagrams.specs.Reference.{Closed}
 use Rattle.transitions.specs.declared.Mode.{Mode}
@@ -28,11 +29,11 @@ pub record ValidPlan (plan : Plan) (s : Store Entry) : Type 0 where
   pub few_stages : plan.stages ≤ 16
   pub has_target : plan.target < plan.stages
   pub has_second : plan.second < plan.stages
-  pub target_first : plan.swaps ≡ true → plan.target < plan.second
-  pub target_only : plan.swaps ≡ false → plan.second ≡ plan.target
+  pub target_first : does_swap plan.act ≡ true → plan.target < plan.second
+  pub target_only : does_swap plan.act ≡ false → plan.second ≡ plan.target
   pub stages_ascend : (j k : ℕ) → j < k → k < plan.stages → plan.stage j < plan.stage k
   pub stages_below : (k : ℕ) → k < plan.stages → plan.stage k < plan.levels
-  pub mixes_alone : plan.mixes ≡ true → plan.stages ≡ 1
+  pub mixes_alone : does_mix plan.act ≡ true → plan.stages ≡ 1
   pub phase_zero : plan.phases.zero < 8
   pub phase_one : plan.phases.one < 8
   pub zero_value : (j : ℕ) → j < length s.values → plan.zero ≡ Some (2 * j) → get_or s.values j 𝟘 ≡ 𝟘

@@ -2,16 +2,15 @@
 #![tactic(auto)]
 
 ghost use Rattle.std.specs.Prelude.{◌≡◌, ◌<◌};
-ghost use Rattle.gates.specs.Rule.{phase, flipped};
 ghost use Rattle.diagrams.specs.Diagram.{ref_of};
-ghost use Rattle.transitions.specs.Plan.{plan_of, plan_rule};
+ghost use Rattle.transitions.specs.Plan.{plan_of};
 ghost use Rattle.transitions.specs.State.{level_of, top};
 ghost use Rattle.transitions.specs.Source.{cols_of, Readable, Reading, ReadingBoth};
 ghost use Rattle.transitions.specs.Next.{mode_code, on_one, cofactor, paired, chosen, at_target, at_second, next_by, next_state};
 ghost use Rattle.transitions.specs.Valid.{Usable};
 
-use gates::Phases;
-use stores::View;
+use gates::{Act, Phases};
+use stores::Nodes;
 
 // What is made of a state's references x and y: x times a power of w8; x + y; x − y; the gate still to act on x, from a stage on; past
 // a swap's first target, whose bit was `seen`: if every control from the stage on is 1 and the second target's bit is not `seen`, what y
@@ -26,19 +25,19 @@ pub enum Mode {
     Choosing { stage: u32, power: u32 },
 }
 
-impl Mode {
-    // The mode in one number, for the computed table; of 64 bits, so that any stage and power may be asked.
+// A mode in one number, for the computed table; of 64 bits, so that any stage and power may be asked.
+impl From<Mode> for u64 {
+    ghost from_gives = { λ mode number. number ≡ mode_code mode };
+
     #[inline]
-    pub fn number(self) -> u64
-        ensures { result ≡ mode_code self }
-    {
-        match self {
-            Mode::Turning(power) => power as u64,
+    fn from(mode: Mode) -> u64 {
+        match mode {
+            Mode::Turning(power) => u64::from(power),
             Mode::Adding => 8,
             Mode::Subtracting => 9,
-            Mode::Waiting(stage) => 16 + stage as u64,
-            Mode::Swapping { stage, seen } => 32 + 2 * stage as u64 + seen as u64,
-            Mode::Choosing { stage, power } => 64 + 8 * stage as u64 + power as u64,
+            Mode::Waiting(stage) => 16 + u64::from(stage),
+            Mode::Swapping { stage, seen } => 32 + 2 * u64::from(stage) + u64::from(seen),
+            Mode::Choosing { stage, power } => 64 + 8 * u64::from(stage) + u64::from(power),
         }
     }
 }
@@ -61,25 +60,16 @@ impl State {
     }
 }
 
-// What a gate does at its target: it takes one entry, or mixes two, or swaps its two targets.
-#[derive(Clone, Copy)]
-pub enum Act {
-    Moves,
-    Mixes,
-    Swaps,
-}
-
 // A step's plan: the levels at which the gate asks, lowest first (its controls and its targets, sixteen at most), how many there are, and
 // which of them are its targets'; what the gate does there; the source's zero, if it has one; the sizes of the tables, the width and the
-// number of levels; and how many nodes and values the source has, of which contracts alone speak. The array has room for the most stages,
-// since memory is fixed.
+// number of levels; and how many nodes and values the source has, of which contracts alone speak: they are no ghost fields, since those of a
+// plain struct state facts and hold no numbers. The array has room for the most stages, since memory is fixed.
 #[derive(Clone, Copy)]
 pub struct Plan {
     pub stages: [u32; 16],
     pub stage_count: u32,
     pub target: u32,
     pub second: u32,
-    pub flips: bool,
     pub act: Act,
     pub phases: Phases,
     pub zero: Option<u32>,
@@ -95,20 +85,33 @@ pub struct Plan {
 
 // ---- the source, which is read only
 
-// The reference below, by the bit, if it asks at this level; else the reference.
-#[inline]
-#[tactic(auto, unfolding(crate::specs::Next::cofactor))]
-fn cofactor(source: &View<'_>, level: u32, bit: bool, x: u32) -> u32
-    requires { Readable (cols_of source.now) x }
-    ensures { Reading (cols_of source.now) x (λ s. result ≡ cofactor s level bit x) }
-{
-    if x % 2 == 1 {
-        let i = (x / 2) as usize;
-        if source.level[i] == level {
-            return if bit { source.high[i] } else { source.low[i] };
-        }
+// A step down in the source: the level that is asked about, and its bit.
+#[derive(Clone, Copy)]
+struct Down<'a> {
+    source: &'a Nodes<'a>,
+    level: u32,
+    bit: bool,
+}
+
+impl Down<'_> {
+    // The reference below, by a bit that is given, if it asks at this level; else the reference. It says of every store that the columns hold
+    // what cofactors::child says of the columns, as all that follows speaks of that store.
+    #[inline]
+    fn child(self, bit: bool, x: u32) -> u32
+        requires { Readable (cols_of self.source.now) x }
+        ensures { Reading (cols_of self.entry.source.now) x (λ s. result ≡ cofactor s self.entry.level bit x) }
+    {
+        cofactors::child(self.source, self.level, bit, x)
     }
-    x
+
+    // The reference below, by the bit that is asked for.
+    #[inline]
+    fn own(self, x: u32) -> u32
+        requires { Readable (cols_of self.source.now) x }
+        ensures { Reading (cols_of self.entry.source.now) x (λ s. result ≡ cofactor s self.entry.level self.entry.bit x) }
+    {
+        self.child(self.bit, x)
+    }
 }
 
 // ---- where a state asks next
@@ -116,7 +119,7 @@ fn cofactor(source: &View<'_>, level: u32, bit: bool, x: u32) -> u32
 impl Plan {
     // The level of a reference; a value's is past the last.
     #[inline]
-    fn level_at(&self, source: &View<'_>, x: u32) -> u32
+    fn level_at(&self, source: &Nodes<'_>, x: u32) -> u32
         requires { Readable (cols_of source.now) x }
         ensures { Reading (cols_of source.now) x (λ s. result ≡ level_of (plan_of self.now) s (ref_of x)) }
     {
@@ -130,7 +133,7 @@ impl Plan {
     // The level that the state asks about: the first of its references' and of the gate's.
     #[inline]
     #[tactic(auto, unfolding(crate::specs::State::top))]
-    pub fn asked(&self, source: &View<'_>, state: State) -> u32
+    pub fn asked(&self, source: &Nodes<'_>, state: State) -> u32
         requires { Usable (cols_of source.now) state }
         ensures { ReadingBoth (cols_of source.now) state.x state.y
             (λ s. result ≡ top (plan_of self.now) s state) }
@@ -151,7 +154,8 @@ impl Plan {
 // ---- what a bit turns a state into
 
 impl Plan {
-    // x + y or x − y; where one of them is the source's zero, the other, times 1 or −1.
+    // x + y or x − y; where one of them is the source's zero, the other, times 1 or −1. Which of the two is a bit, since at the target of H it
+    // is the bit that is asked for, a row's or a column's: where it is 1, the difference.
     #[inline]
     #[tactic(auto, unfolding(crate::specs::Next::paired))]
     fn paired(&self, minus: bool, x: u32, y: u32) -> State
@@ -190,69 +194,52 @@ impl Plan {
         }
     }
 
-    // The power of w8 at the target's bit.
-    #[inline]
-    fn phase_at(&self, bit: bool) -> u32
-        ensures { result ≡ phase (plan_of self.now).phases bit }
-    {
-        if bit {
-            self.phases.one
-        } else {
-            self.phases.zero
-        }
-    }
-
-    // The target's bit that the entry is taken from.
-    #[inline]
-    fn taken_from(&self, bit: bool) -> bool
-        ensures { result ≡ flipped (plan_rule (plan_of self.now)) bit }
-    {
-        if self.flips { !bit } else { bit }
-    }
-
     // The target's question, with the controls from the stage on still to come.
     #[inline]
     #[tactic(auto, unfolding(crate::specs::Next::at_target))]
-    fn at_target(&self, source: &View<'_>, level: u32, bit: bool, stage: u32, x: u32) -> State
-        requires { Readable (cols_of source.now) x }
-        ensures { Reading (cols_of source.now) x
-            (λ s. result ≡ at_target (plan_of self.now) s level bit stage x) }
+    fn at_target(&self, down: Down<'_>, stage: u32, x: u32) -> State
+        requires { Readable (cols_of down.source.now) x }
+        ensures { Reading (cols_of down.entry.source.now) x
+            (λ s. result ≡ at_target (plan_of self.now) s down.entry.level down.entry.bit stage x) }
     {
+        let own = down.own(x);
         match self.act {
-            Act::Mixes => {
-                let low = cofactor(source, level, false, x);
-                let high = cofactor(source, level, true, x);
-                self.paired(bit, low, high)
-            }
+            Act::Keeps => self.chosen(stage, self.phases.at(down.bit), own, own),
+            Act::Flips => self.chosen(
+                stage,
+                self.phases.at(down.bit),
+                own,
+                down.child(!down.bit, x),
+            ),
+            Act::Mixes => self.paired(down.bit, down.child(false, x), down.child(true, x)),
             Act::Swaps => State {
-                x: cofactor(source, level, bit, x),
-                y: cofactor(source, level, !bit, x),
-                mode: Mode::Swapping { stage, seen: bit },
+                x: own,
+                y: down.child(!down.bit, x),
+                mode: Mode::Swapping {
+                    stage,
+                    seen: down.bit,
+                },
             },
-            Act::Moves => {
-                let own = cofactor(source, level, bit, x);
-                let other = cofactor(source, level, self.taken_from(bit), x);
-                self.chosen(stage, self.phase_at(bit), own, other)
-            }
         }
     }
 
-    // A gate that is still to act, from the stage on: its question, or one that it passes by.
+    // A gate that is still to act, from the stage on: its question, or one that it passes by. That the stage is one of the plan's slots is
+    // asked here and in the two below, each of which takes the stage out of its mode: a caller knows it of the mode, as Staged.
     #[inline]
-    fn next_waiting(&self, source: &View<'_>, level: u32, bit: bool, stage: u32, x: u32) -> State
-        requires { (stage < 16) × Readable (cols_of source.now) x }
-        ensures { Reading (cols_of source.now) x
-            (λ s. result ≡ next_by (plan_of self.now) s level bit (Mode.Waiting stage) x x) }
+    fn next_waiting(&self, down: Down<'_>, stage: u32, x: u32) -> State
+        requires { (stage < 16) × Readable (cols_of down.source.now) x }
+        ensures { Reading (cols_of down.entry.source.now) x
+            (λ s. result ≡ next_by (plan_of self.now) s down.entry.level down.entry.bit (Mode.Waiting stage) x x) }
     {
-        let own = cofactor(source, level, bit, x);
-        if self.stages[stage as usize] != level {
+        let own = down.own(x);
+        if self.stages[stage as usize] != down.level {
             return State::on_one(Mode::Waiting(stage), own);
         }
         if self.target == stage {
-            return self.at_target(source, level, bit, stage + 1, x);
+            return self.at_target(down, stage + 1, x);
         }
         State::on_one(
-            if bit {
+            if down.bit {
                 Mode::Waiting(stage + 1)
             } else {
                 Mode::Turning(0)
@@ -263,79 +250,55 @@ impl Plan {
 
     // The second target's question, after a first whose bit was `seen`: where the bits are alike there is nothing to exchange.
     #[inline]
-    fn at_second(
-        &self,
-        source: &View<'_>,
-        level: u32,
-        bit: bool,
-        stage: u32,
-        seen: bool,
-        state: State,
-    ) -> State
-        requires { Readable (cols_of source.now) state.x × Readable (cols_of source.now) state.y }
-        ensures { ReadingBoth (cols_of source.now) state.x state.y
-            (λ s. result ≡ at_second (plan_of self.now) s level bit stage seen state.x state.y) }
+    fn at_second(&self, down: Down<'_>, stage: u32, seen: bool, x: u32, y: u32) -> State
+        requires { Readable (cols_of down.source.now) x × Readable (cols_of down.source.now) y }
+        ensures { ReadingBoth (cols_of down.entry.source.now) x y
+            (λ s. result ≡ at_second (plan_of self.now) s down.entry.level down.entry.bit stage seen x y) }
     {
-        let own = cofactor(source, level, bit, state.x);
-        if bit == seen {
+        let own = down.own(x);
+        if down.bit == seen {
             return State::on_one(Mode::Turning(0), own);
         }
-        let other = cofactor(source, level, seen, state.y);
+        let other = down.child(seen, y);
         self.chosen(stage, 0, own, other)
     }
 
     // Between a swap's targets: the second target's question, a control's, or one that it passes by.
     #[inline]
-    fn next_swapping(
-        &self,
-        source: &View<'_>,
-        level: u32,
-        bit: bool,
-        stage: u32,
-        seen: bool,
-        state: State,
-    ) -> State
-        requires { (stage < 16) × Readable (cols_of source.now) state.x × Readable (cols_of source.now) state.y }
-        ensures { ReadingBoth (cols_of source.now) state.x state.y
-            (λ s. result ≡ next_by (plan_of self.now) s level bit (Mode.Swapping stage seen) state.x state.y) }
+    fn next_swapping(&self, down: Down<'_>, stage: u32, seen: bool, x: u32, y: u32) -> State
+        requires { (stage < 16) × Readable (cols_of down.source.now) x × Readable (cols_of down.source.now) y }
+        ensures { ReadingBoth (cols_of down.entry.source.now) x y
+            (λ s. result ≡ next_by (plan_of self.now) s down.entry.level down.entry.bit (Mode.Swapping stage seen) x y) }
     {
-        let here = self.stages[stage as usize] == level;
+        let here = self.stages[stage as usize] == down.level;
         if here && self.second == stage {
-            return self.at_second(source, level, bit, stage + 1, seen, state);
+            return self.at_second(down, stage + 1, seen, x, y);
         }
-        let own = cofactor(source, level, bit, state.x);
-        if here && !bit {
+        let own = down.own(x);
+        if here && !down.bit {
             return State::on_one(Mode::Turning(0), own);
         }
         let stage = if here { stage + 1 } else { stage };
         State {
             x: own,
-            y: cofactor(source, level, bit, state.y),
+            y: down.own(y),
             mode: Mode::Swapping { stage, seen },
         }
     }
 
     // A gate that has acted on y, with the controls from the stage on still to come.
     #[inline]
-    fn next_choosing(
-        &self,
-        source: &View<'_>,
-        level: u32,
-        bit: bool,
-        stage: u32,
-        power: u32,
-        state: State,
-    ) -> State
-        requires { (stage < 16) × Readable (cols_of source.now) state.x × Readable (cols_of source.now) state.y }
-        ensures { ReadingBoth (cols_of source.now) state.x state.y
-            (λ s. result ≡ next_by (plan_of self.now) s level bit (Mode.Choosing stage power) state.x state.y) }
+    fn next_choosing(&self, down: Down<'_>, stage: u32, power: u32, x: u32, y: u32) -> State
+        requires { (stage < 16) × Readable (cols_of down.source.now) x × Readable (cols_of down.source.now) y }
+        ensures { ReadingBoth (cols_of down.entry.source.now) x y
+            (λ s. result ≡ next_by (plan_of self.now) s down.entry.level down.entry.bit (Mode.Choosing stage power) x y) }
     {
-        let own = cofactor(source, level, bit, state.x);
-        let other = cofactor(source, level, bit, state.y);
-        if self.stages[stage as usize] != level {
+        let own = down.own(x);
+        let other = down.own(y);
+        if self.stages[stage as usize] != down.level {
             return self.chosen(stage, power, own, other);
         }
-        if bit {
+        if down.bit {
             return self.chosen(stage + 1, power, own, other);
         }
         State::on_one(Mode::Turning(0), own)
@@ -344,25 +307,20 @@ impl Plan {
     // The state after the bit of a level.
     #[inline]
     #[tactic(auto, unfolding(crate::specs::Next::next_state))]
-    pub fn next(&self, source: &View<'_>, level: u32, bit: bool, state: State) -> State
+    pub fn next(&self, source: &Nodes<'_>, level: u32, bit: bool, state: State) -> State
         requires { Usable (cols_of source.now) state }
         ensures { ReadingBoth (cols_of source.now) state.x state.y
             (λ s. result ≡ next_state (plan_of self.now) s level bit state) }
     {
-        match state.mode {
-            Mode::Turning(_) => State::on_one(state.mode, cofactor(source, level, bit, state.x)),
-            Mode::Adding | Mode::Subtracting => {
-                let own = cofactor(source, level, bit, state.x);
-                let other = cofactor(source, level, bit, state.y);
-                self.paired(state.mode == Mode::Subtracting, own, other)
-            }
-            Mode::Waiting(stage) => self.next_waiting(source, level, bit, stage, state.x),
-            Mode::Swapping { stage, seen } => self.next_swapping(
-                source, level, bit, stage, seen, state,
-            ),
-            Mode::Choosing { stage, power } => self.next_choosing(
-                source, level, bit, stage, power, state,
-            ),
+        let down = Down { source, level, bit };
+        let State { x, y, mode } = state;
+        match mode {
+            Mode::Turning(_) => State::on_one(mode, down.own(x)),
+            Mode::Adding => self.paired(false, down.own(x), down.own(y)),
+            Mode::Subtracting => self.paired(true, down.own(x), down.own(y)),
+            Mode::Waiting(stage) => self.next_waiting(down, stage, x),
+            Mode::Swapping { stage, seen } => self.next_swapping(down, stage, seen, x, y),
+            Mode::Choosing { stage, power } => self.next_choosing(down, stage, power, x, y),
         }
     }
 }

@@ -1,6 +1,6 @@
 pub mod Progress
 pub mod Works
-pub mod Tallies
+pub mod Putting
 pub mod Ends
 pub mod Settling
 pub mod Turning

@@ -2,6 +2,7 @@
 use mathlib.Core.Path.{◌≡◌, refl, sym, ap, ap₂, ◌∙◌, subst, subst⁻¹}
 use mathlib.Core.Bool.{Bool, true, false, ◌&&◌}
 use Prim.Native.Nat.{ℕ, ◌+◌, ◌≤◌, ◌<◌}
+use Rattle.std.specs.Prelude.{Ok, Err}
 use native.Mathlib.Omega.{arith}
 use borrow.Author.Tests.{leb-true, le-leb}
 use lib.Dec.{leb}
@@ -15,16 +16,9 @@ use Rattle.transitions.specs.declared.State.{State}
 use Rattle.transitions.specs.Plan.{Plan}
 use Rattle.transitions.specs.State.{made, inside}
 use Rattle.meanings.proofs.Walks.{made_extends}
-use Rattle.turns.specs.Progress.{FULL, OUT, Progress, building, full, out, roomy, node_over, Walks, built, filled, left, still_full, left_full, gone}
-use Rattle.turns.specs.Progress.{Finish, low_out, high_out, no_more, joined, overflows}
-
--- ---- answers
-
-pub full_not_out : FULL ≡ OUT → ⊥
-full_not_out e = omega arith
-
-pub below_out : {r : ℕ} → r < OUT → r ≡ OUT → ⊥
-below_out h e = omega arith
+use Rattle.turns.specs.declared.OutsideWidth.{OutsideWidth}
+use Rattle.turns.specs.Progress.{reference_limit, Progress, building, out, roomy, node_over, Walks, built, filled, left, still_full, left_full}
+use Rattle.turns.specs.Progress.{Finish, no_more, joined, overflows}
 
 -- ---- room
 
@@ -50,10 +44,10 @@ not_roomy N L {s} {t} e h = by (roomy N L t) refl
 -- ---- what is made is walked
 
 pub made_walks : {N L : ℕ} {plan : Plan} {s t : Store Entry} {σ : State} {D : Diagram Entry} → D ≡ made plan s σ t → inside plan s σ ≡ true
-    → roomy N L D.store ≡ true → code D.root < OUT → Walks N L plan s σ (building t) (building D.store) (code D.root)
+    → roomy N L D.store ≡ true → code D.root < reference_limit → Walks N L plan s σ (building t) (building D.store) (Ok (code D.root))
 made_walks {N} {L} {plan} {s} {t} {σ} e a c x =
-    subst⁻¹ (λ (E : Diagram Entry). Walks N L plan s σ (building t) (building E.store) (code E.root)) e
-    (built a (ap (λ (E : Diagram Entry). roomy N L E.store) (sym e) ∙ c) (subst (λ (E : Diagram Entry). code E.root < OUT) e x))
+    subst⁻¹ (λ (E : Diagram Entry). Walks N L plan s σ (building t) (building E.store) (Ok (code E.root))) e
+    (built a (ap (λ (E : Diagram Entry). roomy N L E.store) (sym e) ∙ c) (subst (λ (E : Diagram Entry). code E.root < reference_limit) e x))
 
 -- ---- a turn
 
@@ -76,7 +70,9 @@ module _ (N L : ℕ) (plan : Plan) (s : Store Entry) (σ low high : State) (leve
     lo_store = (made plan s low t).store
 
     high_in : Extends (made plan s high lo_store).store (made plan s σ t).store
-    high_in = rw (made_is t) (make_node_extends (branch level (made plan s low t).root (made plan s high lo_store).root) (made plan s high lo_store).store)
+    high_in =
+        rw (made_is t)
+        (make_node_extends (branch level (made plan s low t).root (made plan s high lo_store).root) (made plan s high lo_store).store)
 
     low_in : Extends lo_store (made plan s σ t).store
     low_in = extends_trans (made_extends plan s high lo_store) high_in
@@ -89,34 +85,26 @@ module _ (N L : ℕ) (plan : Plan) (s : Store Entry) (σ low high : State) (leve
         let high_is : ref_of h ≡ (made plan s high lo_store).root = ap ref_of eh ∙ ref_of_code (made plan s high lo_store).root in
         ap₂ (λ (x y : Ref). make_node (branch level x y) (made plan s high lo_store).store) low_is high_is ∙ sym (made_is t)
 
-  -- ---- nothing of a failure is lost, whatever the turn's end makes of it
-
-  stays_full : {p p₃ : Progress} {l h r : ℕ} → (l ≡ OUT → ⊥) → (h ≡ OUT → ⊥) → Finish N L level l h full p₃ r
-      → ((r : ℕ) → (r ≡ OUT → ⊥) → Walks N L plan s σ p full r) → Walks N L plan s σ p p₃ r
-  stays_full f g (low_out e) walks = absurd (f e)
-  stays_full f g (high_out e) walks = absurd (g e)
-  stays_full f g (no_more x y) walks = walks FULL full_not_out
-
-  stays_out : {p p₃ : Progress} {l h r : ℕ} → Finish N L level l h out p₃ r → Walks N L plan s σ p out OUT → Walks N L plan s σ p p₃ r
-  stays_out (low_out e) walks = walks
-  stays_out (high_out e) walks = walks
-
   -- ---- the turn
 
-  pub turn_walks : {p p₁ p₂ p₃ : Progress} {l h r : ℕ} → (p ≡ out → ⊥) → Walks N L plan s low p p₁ l → Walks N L plan s high p₁ p₂ h
-      → Finish N L level l h p₂ p₃ r → Walks N L plan s σ p p₃ r
-  turn_walks alive (built {t = t} a c x) (built b d y) (low_out e) = absurd (omega arith)
-  turn_walks alive (built {t = t} a c x) (built b d y) (high_out e) = absurd (omega arith)
-  turn_walks alive (built {t = t} a c x) (built b d y) (joined f g e z) = made_walks (node_is t refl refl) (both_inside a b) e z
-  turn_walks alive (built {t = t} a c x) (built b d y) (overflows f g e) =
-      filled (both_inside a b) (ap (λ (D : Diagram Entry). roomy N L D.store) (sym (node_is t refl refl)) ∙ e) full_not_out
-  turn_walks alive (built {t = t} a c x) (filled b d y) fin =
-      stays_full (below_out x) y fin (λ r z. filled (both_inside a b) (not_roomy N L (high_in t) d) z)
-  turn_walks alive (built {t = t} a c x) (left b) fin = stays_out fin (left (high_outside a b))
-  turn_walks alive (filled {t = t} a c x) (still_full b y) fin = stays_full x y fin (λ r z. filled (both_inside a b) (not_roomy N L (low_in t) c) z)
-  turn_walks alive (filled {t = t} a c x) (left_full b) fin = stays_out fin (left (high_outside a b))
-  turn_walks alive (left {t = t} a) gone fin = stays_out fin (left (low_outside a))
-  turn_walks alive (still_full a x) (still_full b y) fin = stays_full x y fin (λ r z. still_full (both_inside a b) z)
-  turn_walks alive (still_full a x) (left_full b) fin = stays_out fin (left_full (high_outside a b))
-  turn_walks alive (left_full a) gone fin = stays_out fin (left_full (low_outside a))
-  turn_walks alive gone gone fin = absurd (alive refl)
+  -- both its walks answer
+  pub turn_walks : {p p₁ p₂ p₃ : Progress} {l h r : ℕ} → Walks N L plan s low p p₁ (Ok l) → Walks N L plan s high p₁ p₂ (Ok h)
+      → Finish N L level l h p₂ p₃ r → Walks N L plan s σ p p₃ (Ok r)
+  turn_walks (built {t = t} a c x) (built b d y) (joined e z) = made_walks (node_is t refl refl) (both_inside a b) e z
+  turn_walks (built {t = t} a c x) (built b d y) (overflows e) =
+      filled (both_inside a b) (ap (λ (D : Diagram Entry). roomy N L D.store) (sym (node_is t refl refl)) ∙ e)
+  turn_walks (built {t = t} a c x) (filled b d) no_more = filled (both_inside a b) (not_roomy N L (high_in t) d)
+  turn_walks (filled {t = t} a c) (still_full b) no_more = filled (both_inside a b) (not_roomy N L (low_in t) c)
+  turn_walks (still_full a) (still_full b) no_more = still_full (both_inside a b)
+
+  -- the first leaves the width
+  pub low_leaves : {p : Progress} {e o : OutsideWidth} → Walks N L plan s low p out (Err e) → Walks N L plan s σ p out (Err o)
+  low_leaves (left a) = left (low_outside a)
+  low_leaves (left_full a) = left_full (low_outside a)
+
+  -- the second does
+  pub high_leaves : {p p₁ : Progress} {l : ℕ} {e o : OutsideWidth} → Walks N L plan s low p p₁ (Ok l) → Walks N L plan s high p₁ out (Err e)
+      → Walks N L plan s σ p out (Err o)
+  high_leaves (built a c x) (left b) = left (high_outside a b)
+  high_leaves (filled a c) (left_full b) = left (high_outside a b)
+  high_leaves (still_full a) (left_full b) = left_full (high_outside a b)

@@ -1,134 +1,91 @@
 // A turn of a step's walk, before and after its calls: the value of a state with no question left, and the node over two answers.
 #![tactic(auto)]
 
-ghost use Rattle.std.specs.Prelude.{◌≡◌, ◌/◌};
+ghost use Rattle.std.specs.Prelude.{◌≡◌, is_none, ◌/◌};
 ghost use Rattle.transitions.specs.Plan.{plan_of};
 ghost use Rattle.transitions.specs.Source.{vals_of, HoldsSlot};
 ghost use Rattle.tables.specs.Table.{AtSlot};
 ghost use Rattle.turns.specs.Work.{SameWork};
-ghost use Rattle.turns.specs.Turn.{JoinReady, Joined, Finished, PlaceReady, Placed, Settled};
+ghost use Rattle.turns.specs.Turn.{answered, JoinReady, Finished, TerminalReady, Settled};
 
-use algebra::Entry;
 use stores::View;
-use transitions::{Plan, State};
-use uniques::{NodeTable, ValueTable};
+use tables::Placed;
+use transitions::Plan;
+use uniques::{Node, NodeTable, ValueTable};
 
-// What the walkers answer where there is no reference: numbers that no reference reaches, as the computed table, which keeps the first, is
-// numbers in one lent slice.
-//
-// The product needs more room than there is.
+// What is answered where the product needs more room than there is: a number above every reference, and no Option, since the computed table
+// keeps it beside references in one lent slice, where an Option would be made and unmade at each look. No test reads it: `full` says it.
 pub const FULL: u32 = 4294967293;
 
 // A number of the product lies outside the width.
-pub const OUT: u32 = 4294967292;
-
-// How far a step's walk has come: it builds; or it needed more room than there is, but every number so far lay in the width; or one did
-// not.
 #[derive(Clone, Copy, PartialEq, Eq, Debug)]
-pub enum Phase {
-    Building,
-    Full,
-    Outside,
+pub struct OutsideWidth;
+
+// A planned step: what its walk reads.
+#[derive(Clone, Copy)]
+pub struct Planned<'a> {
+    pub plan: &'a Plan,
+    pub source: View<'a>,
 }
 
-// What a step's walk works on: the tables of the product's nodes and values, the computed table, and how far it has come. The two tables
-// are lent and no part of it: of slices lent through a struct within a struct, the function that lends them is not told what they become.
+// What a step's walk works on: the tables of the product's nodes and values, the computed table, and whether a node or terminal found no
+// room. The walk goes on past that, since a number outside the width comes first. The two tables are lent and no part of it: of slices lent
+// through a struct within a struct, the function that lends them is not told what they become.
 #[derive(Drop)]
 pub struct Work<'w, 'n, 'v> {
     pub nodes: &'w mut NodeTable<'n>,
     pub values: &'w mut ValueTable<'v>,
     pub memo: &'w mut [u32],
-    pub phase: Phase,
+    pub full: bool,
 }
 
-// The node over two answers, if the walk still builds.
+// A unique table's answer as the walk's: without room it is FULL, and so from then on, when no table is asked.
 #[inline]
-fn join(work: &mut Work<'_, '_, '_>, lv: u32, l: u32, h: u32) -> u32
-    requires { JoinReady work.old }
-    ensures same { SameWork work.old work.new }
-    ensures joined { Joined work.old work.new lv l h result }
-    ensures memo { work.new.memo ≡ work.old.memo }
+fn answered(made: Option<u32>, full: &mut bool) -> u32
+    ensures { (result ≡ answered made) × (full.new ≡ is_none made) }
 {
-    if work.phase != Phase::Building {
-        return FULL;
-    }
-    match work.nodes.make(lv, l, h) {
-        Some(node) => node,
-        None => {
-            work.phase = Phase::Full;
-            FULL
-        }
-    }
+    *full = made.is_none();
+    made.unwrap_or(FULL)
 }
 
-// After the two calls: the node over their answers, kept in the computed table.
-#[inline]
-pub fn finish(
-    work: &mut Work<'_, '_, '_>,
-    plan: &Plan,
-    at: usize,
-    lv: u32,
-    state: State,
-    l: u32,
-    h: u32,
-) -> u32
-    requires join_ready { JoinReady work.old }
-    requires at_slot { AtSlot (plan_of plan.now) work.old.memo.now at state }
-    ensures same { SameWork work.old work.new }
-    ensures finished { Finished work.old work.new plan.now lv l h state result }
-{
-    if l == OUT || h == OUT {
-        return OUT;
+impl Work<'_, '_, '_> {
+    // After the two calls: the node over their answers, if the walk still builds, kept in the computed table.
+    #[inline]
+    pub fn finish(&mut self, planned: &Planned<'_>, placed: Placed, node: Node) -> u32
+        requires join_ready { JoinReady self.old }
+        requires at_slot { AtSlot (plan_of planned.now.plan.now) self.old.memo.now placed }
+        ensures same { SameWork self.old self.new }
+        ensures finished { Finished self.old self.new (plan_of planned.now.plan.now) node.level node.low node.high placed.state result }
+    {
+        let made = if self.full {
+            None
+        } else {
+            self.nodes.make(node)
+        };
+        let answer = answered(made, &mut self.full);
+        tables::note(self.memo, planned.plan, placed, answer);
+        answer
     }
-    let r = join(work, lv, l, h);
-    tables::note(work.memo, plan, at, state, r);
-    r
-}
 
-// A terminal, if the walk still builds.
-#[inline]
-fn terminal(work: &mut Work<'_, '_, '_>, e: Entry) -> u32
-    requires { PlaceReady work.old }
-    ensures same { SameWork work.old work.new }
-    ensures placed { Placed work.old work.new e result }
-    ensures memo { work.new.memo ≡ work.old.memo }
-{
-    if work.phase != Phase::Building {
-        return FULL;
-    }
-    match work.values.make(e) {
-        Some(value) => value,
-        None => {
-            work.phase = Phase::Full;
-            FULL
-        }
-    }
-}
-
-// A state with no question left: its value, if it lies within the width, kept in the computed table.
-#[inline]
-pub fn settle(
-    work: &mut Work<'_, '_, '_>,
-    plan: &Plan,
-    src: &View<'_>,
-    at: usize,
-    state: State,
-) -> u32
-    requires place_ready { PlaceReady work.old }
-    requires at_slot { AtSlot (plan_of plan.now) work.old.memo.now at state }
-    requires holds_slot { HoldsSlot (vals_of src.now) (state.x / 2) × HoldsSlot (vals_of src.now) (state.y / 2) }
-    ensures same { SameWork work.old work.new }
-    ensures settled { Settled work.old work.new plan.now (vals_of src.now) state result }
-{
-    match leaves::leaf(src, state, plan.width) {
-        Some(e) => {
-            let r = terminal(work, e);
-            tables::note(work.memo, plan, at, state, r);
-            r
-        }
-        None => {
-            work.phase = Phase::Outside;
-            OUT
-        }
+    // A state with no question left: its value, if it lies within the width, put if the walk still builds, and kept in the computed table.
+    #[inline]
+    pub fn settle(&mut self, planned: &Planned<'_>, placed: Placed) -> Result<u32, OutsideWidth>
+        requires terminal_ready { TerminalReady self.old }
+        requires at_slot { AtSlot (plan_of planned.now.plan.now) self.old.memo.now placed }
+        requires holds_slot { HoldsSlot (vals_of planned.now.source.values) (placed.state.x / 2)
+            × HoldsSlot (vals_of planned.now.source.values) (placed.state.y / 2) }
+        ensures same { SameWork self.old self.new }
+        ensures settled { Settled self.old self.new planned.now placed.state result }
+    {
+        let found = leaves::leaf(&planned.source.values, placed.state, planned.plan.width);
+        let entry = found.ok_or(OutsideWidth)?;
+        let made = if self.full {
+            None
+        } else {
+            self.values.make(entry)
+        };
+        let answer = answered(made, &mut self.full);
+        tables::note(self.memo, planned.plan, placed, answer);
+        Ok(answer)
     }
 }

@@ -38,7 +38,8 @@ module _ (n : ℕ) where
   list_matrix_append [] hs = alike_sym (product_identity n (list_matrix n hs))
   list_matrix_append (g ∷ gs) hs =
       product n (list_matrix n (gs ++ hs)) (matrix g) ≈⟨ product_alike n (list_matrix_append gs hs) (matrix g ■) ⟩
-      product n (product n (list_matrix n hs) (list_matrix n gs)) (matrix g) ≈⟨ alike_of (product_assoc n (list_matrix n hs) (list_matrix n gs) (matrix g)) ⟩
+      product n (product n (list_matrix n hs) (list_matrix n gs)) (matrix g)
+      ≈⟨ alike_of (product_assoc n (list_matrix n hs) (list_matrix n gs) (matrix g)) ⟩
       product n (list_matrix n hs) (product n (list_matrix n gs) (matrix g)) ■
 
   undone_matrix : (gs : List Gate) → Alike n (list_matrix n (undone gs)) (list_inverse n gs)

@@ -5,7 +5,7 @@ use mathlib.Core.Path.{◌≡◌, refl, sym, ◌∙◌, ap}
 use mathlib.Core.Bool.{Bool, true, false, cond}
 use mathlib.Core.List.{List, [], ◌∷◌, ◌++◌}
 use mathlib.Core.Logic.{⊎_elim, ◌≢◌}
-use Prim.Native.Nat.{ℕ, zero, suc, ◌+◌, ◌-◌, ◌<◌, ◌≤◌}
+use Prim.Native.Nat.{ℕ, zero, suc, ◌+◌, ◌<◌, ◌≤◌}
 use native.Mathlib.Decide.{dec_lt}
 use native.Mathlib.Nat.{eq-or-lt_of_le}
 use native.Mathlib.Numerals.{add-one}
@@ -15,7 +15,7 @@ use lib.ListN.{length, get_or, set, length-append, length-set, get_or-append}
 use lib.Seq.{get_or_at, get_or-set_same, get_or-set_other}
 use borrow.Author.Tests.{eqb-true, eqb-false, lt-ltb, le-ltb}
 use Rattle.std.proofs.Common.{Option, Some, None}
-use Rattle.uniques.specs.UniqueTable.{listed, last_with, hash_at, Indexed, found, Put}
+use Rattle.uniques.specs.UniqueTable.{listed, last_with, hash_at, Indexed, Falls, Met, at_end, here, later, found, Put}
 use Rattle.diagrams.proofs.Tests.{Decides, false_apart}
 use Rattle.diagrams.proofs.Keeping.{Absent, Keeps, Kept, kept, distinct_snoc}
 use Rattle.diagrams.proofs.Keeping as keeping
@@ -101,11 +101,12 @@ pub record Searching {A : Type 0} (hash : A → ℕ) (blank : A) (l : List A) (x
   pub linked : last_with (hash_at hash blank l) (hash x) p ≡ p
   pub passed : (k : ℕ) → p ≤ k → k < length l → get_or l k blank ≡ x → ⊥
 
-module _ {A : Type 0} {hash : A → ℕ} {blank : A} {N heads : ℕ} {l : List A} {index : List ℕ} (indexed : Indexed hash blank N heads l index) (x : A) where
+module _ {A : Type 0} {hash : A → ℕ} {blank : A} {N heads : ℕ} {l : List A} {index : List ℕ}
+    (indexed : Indexed hash blank N heads l index) (x : A) where
   abbrev f : ℕ → ℕ
   f = hash_at hash blank l
 
-  pub search_starts : (p : ℕ) → hash x < heads → p ≡ get_or index (N + hash x) 0 → Searching hash blank l x p
+  search_starts : (p : ℕ) → hash x < heads → p ≡ get_or index (N + hash x) 0 → Searching hash blank l x p
   search_starts p h is = rw (is ∙ indexed.head (hash x) h) (record {
     below = last_bound f (hash x) (length l);
     linked = last_again f (hash x) (length l);
@@ -113,10 +114,11 @@ module _ {A : Type 0} {hash : A → ℕ} {blank : A} {N heads : ℕ} {l : List A
   })
 
   -- on to the next number of the chain
-  pub search_steps : (i : ℕ) → Searching hash blank l x (suc i) → (get_or l i blank ≡ x → ⊥)
+  search_steps : (i : ℕ) → Searching hash blank l x (suc i) → (get_or l i blank ≡ x → ⊥)
       → Searching hash blank l x (get_or index i 0) × (get_or index i 0 < suc i)
   search_steps i s other =
-      let goes : get_or index i 0 ≡ last_with f (hash x) i = indexed.next i s.below ∙ ap (λ (h : ℕ). last_with f h i) (last_hash f (hash x) i s.linked) in
+      let goes : get_or index i 0 ≡ last_with f (hash x) i =
+      indexed.next i s.below ∙ ap (λ (h : ℕ). last_with f h i) (last_hash f (hash x) i s.linked) in
       rw goes (
         record {
           below = omega (arith, last_bound f (hash x) i, s.below);
@@ -135,51 +137,72 @@ module _ {A : Type 0} {hash : A → ℕ} {blank : A} {N heads : ℕ} {l : List A
           (eq-or-lt_of_le (omega arith))
 
   module _ {same : A → A → Bool} (𝓓 : Decides same) where
-    pub search_ends : Searching hash blank l x 0 → None ≡ found same x l
+    search_ends : Searching hash blank l x 0 → None ≡ found same x l
     search_ends s = by_kept (kept 𝓓 blank x l)
       where
         by_kept : Kept same blank x l → None ≡ found same x l
         by_kept (keeping.found j h e k) = absurd (s.passed j (omega arith) h e)
         by_kept (keeping.fresh a k) = rw (k.1, le-ltb (length l) (length l) (omega arith))
 
-    pub search_finds : (i : ℕ) → Searching hash blank l x (suc i) → get_or l i blank ≡ x → Some i ≡ found same x l
+    search_finds : (i : ℕ) → Searching hash blank l x (suc i) → get_or l i blank ≡ x → Some i ≡ found same x l
     search_finds i s e = by_kept (kept 𝓓 blank x l)
       where
         by_kept : Kept same blank x l → Some i ≡ found same x l
         by_kept (keeping.found j h g k) = rw (k.1, lt-ltb j (length l) h) (ap Some (indexed.once i j s.below h (e ∙ sym g)))
         by_kept (keeping.fresh a k) = absurd (a i s.below e)
 
--- The same as a loop goes through the chain of x over the first slots: it tests the element at p − 1.
+-- ---- a search by a test
+
+-- as a loop comes by it: from p on the next element, if there is one, is p − 1
+module _ {says : ℕ → Bool → Type 0} {index : List ℕ} (p : ℕ) where
+  pub met_end : p ≡ 0 → Met says index p None
+  met_end e = rw e at_end
+
+  pub met_here : (i : ℕ) {t : Bool} → p ≡ suc i → says i t → t ≡ true → Met says index p (Some i)
+  met_here i there is e = rw there (here (rw e at is))
+
+  pub met_later : (i : ℕ) {t : Bool} {r : Option ℕ} → p ≡ suc i → says i t → t ≡ false → Met says index (get_or index i 0) r → Met says index p r
+  met_later i there is e rest = rw there (later (rw e at is) rest)
+
+-- It tests the first slots: of element i it says whether it is x.
 module _ {A : Type 0} {hash : A → ℕ} {blank : A} {N heads : ℕ} (used : ℕ) (at : ℕ → A) {index : List ℕ}
-    (indexed : Indexed hash blank N heads (listed used at) index) (x : A) where
+    (indexed : Indexed hash blank N heads (listed used at) index) (x : A) (small : hash x < heads)
+    (first : ℕ) (starts : first ≡ get_or index (N + hash x) 0) where
   abbrev Search : ℕ → Type 0
   Search p = Searching hash blank (listed used at) x p
 
-  pub turn_within : (p : ℕ) → Search p → (p ≡ 0 → ⊥) → (p - 1 < used) × (used ≤ N)
-  turn_within p s some = (omega (arith, s.below, length_listed used at), omega (arith, indexed.room, length_listed used at))
+  begun : Search first
+  begun = search_starts indexed x first small starts
 
-  here : (i : ℕ) → Search (suc i) → get_or (listed used at) i blank ≡ at i
-  here i s = get_d_listed used at blank i (omega (arith, s.below, length_listed used at))
+  -- the elements of the chain are in the first slots, and these are in the table
+  pub chain_within : (first ≤ used) × (used ≤ N)
+  chain_within = (omega (arith, begun.below, length_listed used at), omega (arith, indexed.room, length_listed used at))
 
-  module _ {same : A → A → Bool} (𝓓 : Decides same) where
-    tested : (i : ℕ) {t u : Bool} → t ≡ same (at (suc i - 1)) x → t ≡ u → same (at i) x ≡ u
-    tested i is e = let down : i ≡ suc i - 1 = omega arith in ap (λ (k : ℕ). same (at k) x) down ∙ sym is ∙ e
+  pub chain_falls : Falls index first
+  chain_falls = record {
+    within = omega (arith, chain_within.0, chain_within.1, indexed.long);
+    falls = λ i below. falls_at i (omega (arith, chain_within.0, length_listed used at));
+  }
+    where
+      falls_at : (i : ℕ) → i < length (listed used at) → get_or index i 0 ≤ i
+      falls_at i below =
+          let f = hash_at hash blank (listed used at) in
+          omega (arith, indexed.next i below, last_bound f (f i) i)
 
-    pub turn_again : (p : ℕ) {t : Bool} → Search p → (p ≡ 0 → ⊥) → t ≡ same (at (p - 1)) x → t ≡ false
-        → Search (get_or index (p - 1) 0) × (get_or index (p - 1) 0 < p)
-    turn_again zero s some is e = absurd (some refl)
-    turn_again (suc i) s some is e =
-        let down : suc i - 1 ≡ i = omega arith in
-        rw down (search_steps indexed x i s (λ q. false_apart 𝓓 (at i) x (tested i is e) (sym (here i s) ∙ q)))
+  module _ {same : A → A → Bool} (𝓓 : Decides same) {says : ℕ → Bool → Type 0}
+      (test : (i : ℕ) (t : Bool) → i < used → says i t → t ≡ same (at i) x) where
+    tested : (i : ℕ) {t : Bool} → Search (suc i) → says i t → t ≡ same (get_or (listed used at) i blank) x
+    tested i {t} s is =
+        let below : i < used = omega (arith, s.below, length_listed used at) in
+        test i t below is ∙ ap (λ (y : A). same y x) (sym (get_d_listed used at blank i below))
 
-    pub turn_found : (p : ℕ) {t : Bool} → Search p → (p ≡ 0 → ⊥) → t ≡ same (at (p - 1)) x → t ≡ true → Some (p - 1) ≡ found same x (listed used at)
-    turn_found zero s some is e = absurd (some refl)
-    turn_found (suc i) s some is e =
-        let down : suc i - 1 ≡ i = omega arith in
-        rw down (search_finds indexed x 𝓓 i s (here i s ∙ 𝓓.sound (at i) x (tested i is e)))
+    met_from : {p : ℕ} {r : Option ℕ} → Met says index p r → Search p → r ≡ found same x (listed used at)
+    met_from at_end s = search_ends indexed x 𝓓 s
+    met_from (here {i = i} is) s = search_finds indexed x 𝓓 i s (𝓓.sound _ x (sym (tested i s is)))
+    met_from (later {i = i} is rest) s = met_from rest (search_steps indexed x i s (false_apart 𝓓 _ x (sym (tested i s is)))).0
 
-    pub turns_end : (p : ℕ) → Search p → p ≡ 0 → None ≡ found same x (listed used at)
-    turns_end p s e = search_ends indexed x 𝓓 (rw e at s)
+    pub met_found : {r : Option ℕ} → Met says index first r → r ≡ found same x (listed used at)
+    met_found met = met_from met begun
 
 -- ---- what is found, and what follows
 
@@ -237,7 +260,8 @@ module _ {A : Type 0} {same : A → A → Bool} (𝓓 : Decides same) (blank x :
 
 -- ---- one more element
 
-module _ {A : Type 0} {hash : A → ℕ} {blank : A} {N heads : ℕ} {l : List A} {index : List ℕ} (indexed : Indexed hash blank N heads l index) (x : A) where
+module _ {A : Type 0} {hash : A → ℕ} {blank : A} {N heads : ℕ} {l : List A} {index : List ℕ}
+    (indexed : Indexed hash blank N heads l index) (x : A) where
   -- the index with x linked as the first of its chain
   abbrev linked : List ℕ
   linked = set (set index (length l) (get_or index (N + hash x) 0)) (N + hash x) (length l + 1)
@@ -272,7 +296,8 @@ module _ {A : Type 0} {hash : A → ℕ} {blank : A} {N heads : ℕ} {l : List A
             rw (← is) (get_or-set_same (set index (length l) (get_or index (N + hash x) 0)) (N + hash x) (length l + 1) 0
             (omega (arith, indexed.long, length-set index (length l) (get_or index (N + hash x) 0))) ∙ add-one (length l))
         by_test false e =
-            linked_other (N + h) (λ q. eqb-false _ h e (new ∙ omega arith)) (omega arith) ∙ indexed.head h below ∙ sym (last_old h (length l) (omega arith))
+            linked_other (N + h) (λ q. eqb-false _ h e (new ∙ omega arith)) (omega arith)
+            ∙ indexed.head h below ∙ sym (last_old h (length l) (omega arith))
 
     next_more : (i : ℕ) → i < suc (length l)
         → get_or linked i 0 ≡ last_with (hash_at hash blank (l ++ (x ∷ []))) (hash_at hash blank (l ++ (x ∷ [])) i) i
@@ -298,6 +323,7 @@ module _ {A : Type 0} {hash : A → ℕ} {blank : A} {N heads : ℕ} {l : List A
       long = omega (arith, indexed.long, length_linked);
       room = omega (arith, length-append l (x ∷ []));
       once = distinct_snoc blank x l indexed.once absent;
-      head = λ h below. head_more h below ∙ ap (last_with (hash_at hash blank (l ++ (x ∷ []))) h) (sym (length-append l (x ∷ []) ∙ add-one (length l)));
+      head = λ h below. head_more h below
+          ∙ ap (last_with (hash_at hash blank (l ++ (x ∷ []))) h) (sym (length-append l (x ∷ []) ∙ add-one (length l)));
       next = λ i below. next_more i (omega (arith, length-append l (x ∷ [])));
     })

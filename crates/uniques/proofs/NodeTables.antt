@@ -1,6 +1,7 @@
 -- Unique tables of nodes: what lent columns hold as a node is found or appended.
 -- Assumes nothing.
 use mathlib.Core.Path.{◌≡◌, sym, ◌∙◌, ap}
+use mathlib.Core.Bool.{Bool}
 use mathlib.Core.Logic.{◌≢◌}
 use mathlib.Core.List.{List, [], ◌∷◌, ◌++◌}
 use Prim.Native.Nat.{ℕ, suc, ◌+◌, ◌*◌, ◌<◌, ◌≤◌}
@@ -11,12 +12,13 @@ use lib.ListN.{length, get_or, set, drop, length-set, length-append}
 use lib.Seq.{get_or-set_same, get_or-set_other, drop-set-lt}
 use Rattle.diagrams.specs.Diagram.{Node, branch, unused, ref_of, same_node}
 use Rattle.uniques.specs.declared.NodeTable.{NodeTable}
-use Rattle.uniques.specs.UniqueTable.{node_in, nodes_in, found, node_hash, NodesHeld, table_nodes, NodeTableHeld, NodesUnchanged, NodesMade, NodePut, NodeMade}
+use Rattle.uniques.specs.UniqueTable.{Falls, Met, node_in, nodes_in, found, node_hash, node_chain, NodesHeld}
+use Rattle.uniques.specs.UniqueTable.{table_node, table_nodes, NodeTableHeld, NodesUnchanged, NodesMade, NodePut, NodeMade}
 use Rattle.diagrams.proofs.References.{ref_of_injective}
 use Rattle.diagrams.proofs.Tests.{node_decides}
 use Rattle.diagrams.proofs.Keeping.{Absent}
 use Rattle.uniques.proofs.Hashes.{node_hash_below}
-use Rattle.uniques.proofs.Chains.{length_listed, listed_snoc, put_there, put_next, put_full, indexed_snoc}
+use Rattle.uniques.proofs.Chains.{length_listed, listed_snoc, chain_within, chain_falls, met_found, put_there, put_next, put_full, indexed_snoc}
 
 -- ---- a search in the columns
 
@@ -37,6 +39,23 @@ in_columns held i h = record {
   in_high = omega (arith, held.high_long);
   in_index = omega (arith, held.indexed.long);
 }
+
+-- along the chain of a node
+module _ (t : NodeTable) (held : NodeTableHeld t) (x : Node) {first : ℕ} (starts : first ≡ node_chain t x) where
+  small : node_hash t.heads x < t.heads
+  small = node_hash_below t.heads x held.indexed.some_head
+
+  pub falls : Falls t.index.now first
+  falls = chain_falls _ _ held.indexed x small first starts
+
+  pub chain_in : (i : ℕ) → i < first → InColumns t.level.now t.low.now t.high.now t.index.now i
+  chain_in i below =
+      let w = chain_within _ _ held.indexed x small first starts in
+      in_columns held i (omega (arith, w.0, w.1))
+
+  pub finds : {says : ℕ → Bool → Type 0} {r : Option ℕ} → ((i : ℕ) (b : Bool) → says i b → b ≡ same_node (table_node t i) x)
+      → Met says t.index.now first r → r ≡ found same_node x (table_nodes t)
+  finds test met = met_found _ _ held.indexed x small first starts node_decides (λ i b _ is. test i b is) met
 
 -- ---- a node made
 

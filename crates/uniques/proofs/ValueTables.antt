@@ -1,23 +1,24 @@
 -- Unique tables of terminals: what lent slots hold as a terminal is found or appended.
 -- Assumes nothing.
 use mathlib.Core.Path.{◌≡◌, sym, ◌∙◌, ap}
+use mathlib.Core.Bool.{Bool}
 use mathlib.Core.List.{List, [], ◌∷◌, ◌++◌}
 use Prim.Native.Nat.{ℕ, suc, ◌+◌, ◌*◌, ◌<◌, ◌≤◌}
 use native.Mathlib.Numerals.{add-one}
 use native.Mathlib.Omega.{arith}
-use Rattle.std.proofs.Common.{Some, None}
+use Rattle.std.proofs.Common.{Option, Some, None}
 use lib.ListN.{length, get_or, set, drop, length-set, length-append}
 use lib.Seq.{get_or-set_same, get_or-set_other, drop-set-lt}
 use Rattle.algebra.specs.declared.Entry.{Entry}
 use Rattle.algebra.specs.Entry.{𝟘}
 use Rattle.diagrams.specs.Diagram.{same_entry}
 use Rattle.uniques.specs.declared.ValueTable.{ValueTable}
-use Rattle.uniques.specs.UniqueTable.{found, Put, value_in, values_in, value_hash}
+use Rattle.uniques.specs.UniqueTable.{Falls, Met, found, Put, value_in, values_in, value_hash, value_chain}
 use Rattle.uniques.specs.UniqueTable.{ValuesHeld, table_values, ValueTableHeld, ValuesUnchanged, ValuesMade, ValueMade}
 use Rattle.diagrams.proofs.Tests.{entry_decides}
 use Rattle.diagrams.proofs.Keeping.{Absent}
 use Rattle.uniques.proofs.Hashes.{value_hash_below}
-use Rattle.uniques.proofs.Chains.{length_listed, listed_snoc, put_there, put_next, put_full, indexed_snoc}
+use Rattle.uniques.proofs.Chains.{length_listed, listed_snoc, chain_within, chain_falls, met_found, put_there, put_next, put_full, indexed_snoc}
 
 -- a terminal's slots are there
 pub record InSlots (vals : List Entry) (index : List ℕ) (j : ℕ) : Type 0 where
@@ -32,6 +33,23 @@ in_slots held j h = record {
   in_vals = omega (arith, held.vals_long);
   in_index = omega (arith, held.indexed.long);
 }
+
+-- along the chain of a terminal
+module _ (t : ValueTable) (held : ValueTableHeld t) (x : Entry) {first : ℕ} (starts : first ≡ value_chain t x) where
+  small : value_hash t.heads x < t.heads
+  small = value_hash_below t.heads x held.indexed.some_head
+
+  pub falls : Falls t.index.now first
+  falls = chain_falls _ _ held.indexed x small first starts
+
+  pub chain_in : (j : ℕ) → j < first → InSlots t.terminals.now t.index.now j
+  chain_in j below =
+      let w = chain_within _ _ held.indexed x small first starts in
+      in_slots held j (omega (arith, w.0, w.1))
+
+  pub finds : {says : ℕ → Bool → Type 0} {r : Option ℕ} → ((j : ℕ) (b : Bool) → says j b → b ≡ same_entry (value_in t.terminals.now j) x)
+      → Met says t.index.now first r → r ≡ found same_entry x (table_values t)
+  finds test met = met_found _ _ held.indexed x small first starts entry_decides (λ j b _ is. test j b is) met
 
 -- ---- a terminal made
 

@@ -1,7 +1,7 @@
 -- Unique tables: what lent columns and an index of hash chains hold. Definitions only; their laws are in proofs/Chains.antt,
 -- proofs/NodeTables.antt and proofs/ValueTables.antt.
-use Rattle.std.specs.Prelude.{◌≡◌, Bool, cond, List, [], ◌∷◌, ◌++◌, Option, Some, None, ℕ, zero, suc, ◌+◌, ◌*◌, ◌-◌, ◌/◌, ◌%◌, ◌<◌, ◌≤◌, eqb, ltb}
-use Rattle.std.specs.Prelude.{ℤ, pos, negsuc, length, get_or, drop}
+use Rattle.std.specs.Prelude.{◌≡◌, Bool, true, false, cond, List, [], ◌∷◌, ◌++◌, Option, Some, None, ℕ, zero, suc}
+use Rattle.std.specs.Prelude.{◌+◌, ◌*◌, ◌-◌, ◌/◌, ◌%◌, ◌<◌, ◌≤◌, eqb, ltb, ℤ, pos, negsuc, length, get_or, drop}
 use Rattle.algebra.specs.declared.Entry.{Entry}
 use Rattle.algebra.specs.Entry.{𝟘}
 use Rattle.uniques.specs.declared.NodeTable.{NodeTable}
@@ -44,6 +44,17 @@ module _ {A : Type 0} (hash : A → ℕ) (blank : A) where
     pub head : (h : ℕ) → h < heads → get_or index (N + h) 0 ≡ last_with (hash_at l) h (length l)
     pub next : (i : ℕ) → i < length l → get_or index i 0 ≡ last_with (hash_at l) (hash_at l i) i
 
+-- the numbers that a chain has from p on fall, and its elements are in the index
+pub record Falls (index : List ℕ) (p : ℕ) : Type 0 where
+  pub within : p ≤ length index
+  pub falls : (i : ℕ) → i < p → get_or index i 0 ≤ i
+
+-- what a search along a chain answers: the first of its elements from p on at which the test says true, if there is one
+pub data Met (says : ℕ → Bool → Type 0) (index : List ℕ) : ℕ → Option ℕ → Type 0 where
+  at_end : Met says index 0 None
+  here : {i : ℕ} → says i true → Met says index (suc i) (Some i)
+  later : {i : ℕ} {r : Option ℕ} → says i false → Met says index (get_or index i 0) r → Met says index (suc i) r
+
 -- the slot at which an element is found, if it is there
 abbrev pub found : {A : Type 0} → (A → A → Bool) → A → List A → Option ℕ
 found same x l = cond (ltb (slot same x l) (length l)) (Some (slot same x l)) None
@@ -54,12 +65,21 @@ pub record Put {A : Type 0} (same : A → A → Bool) (answer : ℕ → ℕ) (N 
   pub kept : length (keep same x l) ≤ N → (r ≡ Some (answer (slot same x l))) × Held (keep same x l)
   pub missing : N < length (keep same x l) → (r ≡ None) × Unchanged
 
+-- ---- hashes
+
+-- by its lowest 16 bits, a number is given its part of `size`: a number below it
+abbrev pub part_of : ℕ → ℕ → ℕ
+part_of mixed size = mixed % 65536 * size / 65536
+
+-- three numbers spread over `size`: a number below it
+unfoldable pub spread : ℕ → ℕ → ℕ → ℕ → ℕ
+spread x y z size = part_of ((x % 131072 * 679488061819 + y % 131072 * 836218895663 + z % 1024 * 923031386221) / 1048576) size
+
 -- ---- nodes
 
 -- a number below `heads`, by which nodes are spread over the chains
 unfoldable pub node_hash : ℕ → Node → ℕ
-node_hash heads n =
-    (code n.low % 131072 * 679488061819 + code n.high % 131072 * 836218895663 + n.level % 1024 * 923031386221) / 1048576 % 65536 * heads / 65536
+node_hash heads n = spread (code n.low) (code n.high) n.level heads
 
 -- the columns hold these nodes, and the index finds them
 pub record NodesHeld (N heads : ℕ) (ns : List Node) (level low high index : List ℕ) : Type 0 where
@@ -69,7 +89,10 @@ pub record NodesHeld (N heads : ℕ) (ns : List Node) (level low high index : Li
   pub nodes : nodes_in (length ns) level low high ≡ ns
   pub indexed : Indexed (node_hash heads) unused N heads ns index
 
--- the nodes of a table, and that its index finds them
+-- the node in a slot of a table, its nodes, and that its index finds them
+abbrev pub table_node : NodeTable → ℕ → Node
+table_node t i = node_in t.level.now t.low.now t.high.now i
+
 abbrev pub table_nodes : NodeTable → List Node
 table_nodes t = nodes_in t.used t.level.now t.low.now t.high.now
 
@@ -125,7 +148,7 @@ lifted (negsuc n) = 2147483647 - n
 
 unfoldable pub value_hash : ℕ → Entry → ℕ
 value_hash heads e =
-    (lifted e.a * 506952121 + lifted e.b * 313699893 + lifted e.c * 384368313 + lifted e.d * 461845907) / 16777216 % 65536 * heads / 65536
+    part_of ((lifted e.a * 506952121 + lifted e.b * 313699893 + lifted e.c * 384368313 + lifted e.d * 461845907) / 16777216) heads
 
 abbrev pub value_in : List Entry → ℕ → Entry
 value_in vals j = get_or vals j 𝟘

@@ -11,6 +11,7 @@ fn main(rt: HostRuntime) {
     let n = streams::read_full(&mut rt.stdin(), &mut input);
     let mut line = [0; reports::ROOM];
     let end = inputs::answer_line(&input[..n], &mut line);
+    // The program inverse ends in the same way. A function of both could promise nothing: no clause says what an output has taken.
     if rt.stdout().write_all(&line[..end]).is_err() {
         let _ = rt
             .stderr()

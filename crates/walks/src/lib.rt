@@ -4,7 +4,6 @@
 
 ghost use Rattle.std.specs.Prelude.{◌≡◌};
 ghost use Rattle.transitions.specs.Plan.{plan_of};
-ghost use Rattle.transitions.specs.Source.{cols_of, vals_of};
 ghost use Rattle.transitions.specs.Next.{next_state};
 ghost use Rattle.tables.specs.Table.{AtSlot, recalled};
 ghost use Rattle.turns.specs.Work.{source_in, SameWork};
@@ -12,80 +11,87 @@ ghost use Rattle.turns.specs.Turn.{Ready, Walked};
 ghost use Rattle.walks.specs.Walk.{Begun, Descending};
 
 use std::ops::ControlFlow;
-use stores::View;
+use tables::Placed;
 use transitions::{Plan, State};
-use turns::{OUT, Phase, Work};
+use turns::{OutsideWidth, Planned, Work};
+use uniques::Node;
 
-// A walker before its question: its answer, where a number has left the width or nothing is left to ask; else the level that it asks at.
+// A walker before its question: its answer, where nothing is left to ask; else the level that it asks at.
 #[inline]
 fn begin(
     work: &mut Work<'_, '_, '_>,
-    plan: &Plan,
-    src: &View<'_>,
-    at: usize,
-    state: State,
-) -> ControlFlow<u32, u32>
-    requires { Ready plan.now (cols_of src.now) (vals_of src.now) work.old at state }
+    planned: &Planned<'_>,
+    placed: Placed,
+) -> ControlFlow<Result<u32, OutsideWidth>, u32>
+    requires { Ready planned.now work.old placed }
     ensures same { SameWork work.old work.new }
-    ensures begun { Begun plan.now (cols_of src.now) (vals_of src.now) work.old at state work.new result }
+    ensures begun { Begun planned.now work.old placed work.new result }
 {
-    if work.phase == Phase::Outside {
-        return ControlFlow::Break(OUT);
+    if leaves::is_leaf(placed.state) {
+        return ControlFlow::Break(work.settle(planned, placed));
     }
-    if leaves::is_leaf(state) {
-        return ControlFlow::Break(turns::settle(work, plan, src, at, state));
-    }
-    ControlFlow::Continue(plan.asked(src, state))
+    ControlFlow::Continue(planned.plan.asked(&planned.source.nodes, placed.state))
 }
 
 // The diagram of a state's product, added to the destination. A value ends the walk. A state that asks for a row bit: both its
 // cofactors go to `column`, low before high, then the node over them. One that asks for a column bit goes to `column` itself.
 #[cycle(column_row)]
-pub fn row(work: &mut Work<'_, '_, '_>, plan: &Plan, src: &View<'_>, at: usize, state: State) -> u32
-    requires { Ready plan.now (cols_of src.now) (vals_of src.now) work.old at state }
+pub fn row(
+    work: &mut Work<'_, '_, '_>,
+    planned: &Planned<'_>,
+    placed: Placed,
+) -> Result<u32, OutsideWidth>
+    requires { Ready planned.now work.old placed }
     ensures same { SameWork work.old work.new }
-    ensures walked { Walked plan.now (cols_of src.now) (vals_of src.now) work.old state result work.new }
+    ensures walked { Walked planned.now work.old placed.state result work.new }
 {
-    match begin(work, plan, src, at, state) {
+    match begin(work, planned, placed) {
         ControlFlow::Break(answer) => answer,
-        ControlFlow::Continue(lv) => {
-            if lv % 2 == 1 {
-                return column(work, plan, src, at, state);
+        ControlFlow::Continue(level) => {
+            if level % 2 == 1 {
+                return column(work, planned, placed);
             }
-            let l = below(work, plan, src, lv, false, state);
-            let h = below(work, plan, src, lv, true, state);
-            turns::finish(work, plan, at, lv, state, l, h)
+            let low = below(work, planned, level, false, placed.state)?;
+            let high = below(work, planned, level, true, placed.state)?;
+            let node = Node { level, low, high };
+            Ok(work.finish(planned, placed, node))
         }
     }
 }
 
 // The same with rows and columns in exchanged parts: the question about a column bit hands over to the one about the row bit.
 #[cycle(column_row)]
-fn column(work: &mut Work<'_, '_, '_>, plan: &Plan, src: &View<'_>, at: usize, state: State) -> u32
-    requires { Ready plan.now (cols_of src.now) (vals_of src.now) work.old at state }
+fn column(
+    work: &mut Work<'_, '_, '_>,
+    planned: &Planned<'_>,
+    placed: Placed,
+) -> Result<u32, OutsideWidth>
+    requires { Ready planned.now work.old placed }
     ensures same { SameWork work.old work.new }
-    ensures walked { Walked plan.now (cols_of src.now) (vals_of src.now) work.old state result work.new }
+    ensures walked { Walked planned.now work.old placed.state result work.new }
 {
-    match begin(work, plan, src, at, state) {
+    match begin(work, planned, placed) {
         ControlFlow::Break(answer) => answer,
-        ControlFlow::Continue(lv) => {
-            if lv % 2 == 0 {
-                return row(work, plan, src, at, state);
+        ControlFlow::Continue(level) => {
+            if level % 2 == 0 {
+                return row(work, planned, placed);
             }
-            let l = below(work, plan, src, lv, false, state);
-            let h = below(work, plan, src, lv, true, state);
-            turns::finish(work, plan, at, lv, state, l, h)
+            let low = below(work, planned, level, false, placed.state)?;
+            let high = below(work, planned, level, true, placed.state)?;
+            let node = Node { level, low, high };
+            Ok(work.finish(planned, placed, node))
         }
     }
 }
 
-// What the computed table has of a state.
+// What the computed table has of a state. It stands apart, since the proof did not close without it: where `below` lends the table itself, it
+// is not told that the table comes back as it was.
 #[inline]
-fn known(work: &Work<'_, '_, '_>, plan: &Plan, at: usize, state: State) -> Option<u32>
-    requires { AtSlot (plan_of plan.now) work.now.memo.now at state }
-    ensures { result ≡ recalled (plan_of plan.now) work.now.memo.now state }
+fn known(work: &Work<'_, '_, '_>, plan: &Plan, placed: Placed) -> Option<u32>
+    requires { AtSlot (plan_of plan.now) work.now.memo.now placed }
+    ensures { result ≡ recalled (plan_of plan.now) work.now.memo.now placed.state }
 {
-    tables::recall(work.memo, plan, at, state)
+    tables::recall(work.memo, plan, placed)
 }
 
 // A cofactor of a state that asks at a level: what the computed table has of it, or the other walker's answer.
@@ -93,26 +99,24 @@ fn known(work: &Work<'_, '_, '_>, plan: &Plan, at: usize, state: State) -> Optio
 #[inline]
 fn below(
     work: &mut Work<'_, '_, '_>,
-    plan: &Plan,
-    src: &View<'_>,
-    lv: u32,
+    planned: &Planned<'_>,
+    level: u32,
     bit: bool,
     state: State,
-) -> u32
-    requires { Descending plan.now (cols_of src.now) (vals_of src.now) work.old lv state }
+) -> Result<u32, OutsideWidth>
+    requires { Descending planned.now work.old level state }
     ensures same { SameWork work.old work.new }
-    ensures walked { Walked plan.now (cols_of src.now) (vals_of src.now) work.old
-        (next_state (plan_of plan.now) (source_in plan.now (cols_of src.now) (vals_of src.now)) lv bit state) result work.new }
+    ensures walked { Walked planned.now work.old (next_state (plan_of planned.now.plan.now) (source_in planned.now) level bit state) result work.new }
 {
-    let next = plan.next(src, lv, bit, state);
-    let at = tables::slot(plan, next);
-    match known(work, plan, at, next) {
-        Some(answer) => answer,
+    let next = planned.plan.next(&planned.source.nodes, level, bit, state);
+    let placed = tables::place(planned.plan, next);
+    match known(work, planned.plan, placed) {
+        Some(answer) => Ok(answer),
         None => {
-            if lv % 2 == 0 {
-                column(work, plan, src, at, next)
+            if level % 2 == 0 {
+                column(work, planned, placed)
             } else {
-                row(work, plan, src, at, next)
+                row(work, planned, placed)
             }
         }
     }

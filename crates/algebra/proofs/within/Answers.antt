@@ -4,4 +4,4 @@ use Rattle.algebra.proofs.Widths.{range_is}
 use Rattle.algebra.proofs.within.Goals as goal
 
 pub returns : goal.returns
-returns c = c.contains.ensures.value ∙ range_is c.args.w c.ranges.s c.requires.1
+returns c = c.contains.ensures.value ∙ range_is c.args.w c.ranges.number c.requires.1

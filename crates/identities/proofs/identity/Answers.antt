@@ -6,6 +6,6 @@ use Rattle.identities.proofs.identity.Goals as goal
 
 pub returns-clause-written : goal.returns-clause-written
 returns-clause-written c =
-    store_written
-    (pairs_published (columns_of c.args.store.now) c.write_pair.ensures c.write_pair-2.ensures c.write_pair-3.ensures c.write_pair-4.ensures)
-    c.write_qubits.ensures.nodes
+    let values = pairs_published (columns_of c.args.store.now)
+    c.copy_from_slice.ensures.after c.copy_from_slice-2.ensures.after c.copy_from_slice-3.ensures.after c.copy_from_slice-4.ensures.after in
+    store_written values c.write_qubits.ensures.nodes

@@ -4,4 +4,4 @@ use Rattle.inverses.proofs.Writing.{Writing}
 use Rattle.inverses.proofs.write_gates.Given as goal
 
 abbrev pub invariant-loop : goal.invariant-loop
-invariant-loop l = Writing l.list l.head.qubits l.head.gates l.head.first l.initial.writer l.writer l.reader l.counter
+invariant-loop l = Writing l.list l.head.qubits l.head.gates l.head.first l.initial.buffer l.buffer l.reader l.counter

@@ -7,4 +7,4 @@ use Rattle.judges.proofs.judge_sized.Goals as goal
 pub judge_within-requires-else-first-le-SMALL_STORE-clause-at_most :
     goal.judge_within-requires-else-first-le-SMALL_STORE-clause-at_most
 judge_within-requires-else-first-le-SMALL_STORE-clause-at_most c =
-    passed_at_most _ _ _ _ (columns_of c.args.first.now) _ c.requires
+    passed_at_most _ _ (columns_of c.args.first.now) (columns_of c.args.second.now) c.requires

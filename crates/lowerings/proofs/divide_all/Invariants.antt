@@ -1,7 +1,8 @@
 -- `lowerings::divide_all` meets its contract. The loop's invariant: the terminals passed are divided, the others as they were.
 -- Assumes nothing.
-use Rattle.lowerings.proofs.Lowerings.{Dividing}
+use Rattle.std.proofs.Common.{◌≡◌, ◌++◌, map, take, drop}
+use Rattle.algebra.specs.Division.{over_√2}
 use Rattle.lowerings.proofs.divide_all.Given as goal
 
 abbrev pub invariant-loop-x : goal.invariant-loop-x
-invariant-loop-x l = Dividing l.initial.x-items l.x-items l.x-index
+invariant-loop-x l = l.terminals ≡ map over_√2 (take l.x-index l.initial.terminals) ++ drop l.x-index l.initial.terminals

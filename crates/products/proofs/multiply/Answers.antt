@@ -4,7 +4,7 @@ use Rattle.products.proofs.Steps.{starts, steps}
 use Rattle.products.proofs.multiply.Goals as goal
 
 pub row-requires : goal.row-requires
-row-requires c = starts _ _ _ _ c.requires.task _ _ c.requires.fresh c.slot-at.ensures
+row-requires c = rw c.place.ensures (starts _ _ c.requires.task _ c.requires.fresh)
 
 pub returns-clause-multiplied : goal.returns-clause-multiplied
-returns-clause-multiplied c task = steps _ _ _ _ task _ _ c.requires.fresh c.row.ensures.walked
+returns-clause-multiplied c task = steps _ _ task _ _ c.requires.fresh (rw c.place.ensures at c.row.ensures.walked)

@@ -4,9 +4,9 @@ use Rattle.std.proofs.lemmas.Bool.Decides.{nat_tests}
 use Rattle.schedules.specs.Schedule.{made}
 use Rattle.schedules.proofs.proportional.Goals as goal
 
-pub returns-then-m-gt-GATE_LIMIT-clause-answer : goal.returns-then-m-gt-GATE_LIMIT-clause-answer
+pub returns-then-limit-m-clause-answer : goal.returns-then-limit-m-clause-answer
 unfolding made
-returns-then-m-gt-GATE_LIMIT-clause-answer c = grind (arith, nat_tests)
+returns-then-limit-m-clause-answer c = grind (arith, nat_tests)
 
 pub returns-then-buffer-steps-clause-answer : goal.returns-then-buffer-steps-clause-answer
 unfolding made

@@ -1,17 +1,14 @@
--- `searches::entry_at` meets its contract, qubit by qubit. Assumes nothing.
-use native.Mathlib.Omega.{arith}
-use Rattle.searches.proofs.Entries.{column_there, way_again, entry_there, entry_given}
+-- `searches::entry_at` meets its contract: the reference at the row and the column is to the entry there. Assumes nothing.
+use mathlib.Core.Path.{◌∙◌}
+use Rattle.searches.proofs.Starts.{used_nodes, slot_there, entry_lands}
 use Rattle.searches.proofs.entry_at.Goals as goal
 
-pub child_of-r-requires-in-loop-q : goal.child_of-r-requires-in-loop-q
-child_of-r-requires-in-loop-q c = column_there _ _ _ _ c.requires _ _ c.loop-q.invariant c.child_of-r.ensures
+pub reference_at-reference-requires-clause-held : goal.reference_at-reference-requires-clause-held
+reference_at-reference-requires-clause-held c = used_nodes _ _ _ c.args.store.now c.requires
 
-pub loop-q-preserved : goal.loop-q-preserved
-loop-q-preserved c =
-    way_again _ _ _ _ c.requires _ _ c.loop-q.invariant c.child_of-r.ensures c.loop-q-test.true c.child_of-r-in-loop-q.ensures
-
-pub value_at-requires : goal.value_at-requires
-value_at-requires c = entry_there _ _ _ _ c.requires _ _ c.loop-q.invariant (omega arith)
+pub entry_of-requires : goal.entry_of-requires
+entry_of-requires c = slot_there _ _ _ c.args.store.now c.requires
+    (entry_lands _ _ _ c.args.store.now c.requires _ _ c.reference_at-reference.ensures)
 
 pub returns : goal.returns
-returns c = entry_given _ _ _ _ c.requires _ _ c.loop-q.invariant (omega arith) c.value_at.ensures
+returns c = c.entry_of.ensures ∙ (entry_lands _ _ _ c.args.store.now c.requires _ _ c.reference_at-reference.ensures).entry

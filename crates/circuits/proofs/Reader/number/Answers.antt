@@ -6,14 +6,14 @@ use Rattle.circuits.proofs.Reader.number.Goals as goal
 pub returns-in_err-byte : goal.returns-in_err-byte
 returns-in_err-byte c = number_said _ _ _ _ _ (search rules)
 
-pub returns-then-x-lt128 : goal.returns-then-x-lt128
-returns-then-x-lt128 c = number_said _ _ _ _ _ (search rules)
+pub returns-then-x-lt-GROUP : goal.returns-then-x-lt-GROUP
+returns-then-x-lt-GROUP c = number_said _ _ _ _ _ (search rules)
 
 pub returns-in_err-byte-2 : goal.returns-in_err-byte-2
 returns-in_err-byte-2 c = number_said _ _ _ _ _ (search rules)
 
-pub returns-then-y-lt128 : goal.returns-then-y-lt128
-returns-then-y-lt128 c = number_said _ _ _ _ _ (search rules)
+pub returns-then-y-lt-GROUP : goal.returns-then-y-lt-GROUP
+returns-then-y-lt-GROUP c = number_said _ _ _ _ _ (search rules)
 
 pub returns-in_err-byte-3 : goal.returns-in_err-byte-3
 returns-in_err-byte-3 c = number_said _ _ _ _ _ (search rules)

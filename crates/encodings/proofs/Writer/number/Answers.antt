@@ -10,7 +10,7 @@ pub byte-requires : goal.byte-requires
 byte-requires c = writing_room c.loop-group.invariant c.requires.v_in_bounds
 
 pub loop-group-preserved : goal.loop-group-preserved
-loop-group-preserved c = writing_more c.loop-group.invariant _ (omega arith) c.byte.ensures.wrote c.byte.ensures.same_buffer
+loop-group-preserved c = writing_more c.loop-group.invariant _ (omega arith) c.byte.ensures
 
 pub overflow_cast-rest-2 : goal.overflow_cast-rest-2
 overflow_cast-rest-2 c = omega (arith, writing_last c.loop-group.invariant (omega arith))
@@ -18,5 +18,5 @@ overflow_cast-rest-2 c = omega (arith, writing_last c.loop-group.invariant (omeg
 pub byte-requires-2 : goal.byte-requires-2
 byte-requires-2 c = writing_room c.loop-group.invariant c.requires.v_in_bounds
 
-pub returns-clause-wrote : goal.returns-clause-wrote
-returns-clause-wrote c = writing_all c.loop-group.invariant (omega arith) c.byte-2.new.self c.byte-2.ensures.wrote
+pub returns : goal.returns
+returns c = writing_all c.loop-group.invariant (omega arith) c.byte-2.new.self c.byte-2.ensures

@@ -1,16 +1,12 @@
 -- `stores::Store::publish` meets its contract. The loop's invariant: the numbers of the terminals passed stand in the columns. Assumes nothing.
-use mathlib.Core.Path.{◌≡◌, ◌∙◌, ap}
-use Prim.Native.Nat.{◌+◌, ◌<◌}
+use mathlib.Core.Path.{◌∙◌}
+use Prim.Native.Nat.{◌+◌}
 use native.Mathlib.Omega.{arith}
 use borrow.Author.Rules.{rules}
-use lib.ListN.{take, get_or, length-set}
-use Rattle.std.proofs.Common.{get_or-take}
-use lib.Seq.{length-take-le}
+use lib.ListN.{length-set}
 use mir.Facts.{to_z-of_z}
 use mir.Syntax.{w32}
-use Rattle.algebra.specs.declared.Entry.{Entry}
 use Rattle.algebra.specs.Entry.{𝟘}
-use Rattle.uniques.specs.UniqueTable.{value_in}
 use Rattle.stores.specs.Columns.{columns_of, ValueColumns}
 use Rattle.stores.proofs.Columns.{same_none}
 use Rattle.stores.proofs.Stores.{publishing_none, publishing_next, publishing_all}
@@ -18,33 +14,25 @@ use Rattle.stores.proofs.Store.publish.Goals.{In-loop-j}
 use Rattle.stores.proofs.Store.publish.Goals as goal
 
 pub loop-j-init : goal.loop-j-init
-loop-j-init c = (publishing_none c.args.vals.now (columns_of c.args.self.now), same_none c.args.self.now)
-
--- the terminal is one of those used
-below : (c : In-loop-j) → c.loop-j.j < c.args.used
-below c = omega (arith, length-take-le c.args.used c.args.vals.now c.requires.0, c.loop-j-test.true)
+loop-j-init c = (publishing_none c.args.terminals.now (columns_of c.args.self.now), same_none c.args.self.now)
 
 fits : (c : In-loop-j) → ValueColumns (columns_of c.args.self.now) (c.loop-j.j + 1)
 fits c = record {
-  in_a = omega (arith, below c, c.requires.1.in_a);
-  in_b = omega (arith, below c, c.requires.1.in_b);
-  in_c = omega (arith, below c, c.requires.1.in_c);
-  in_d = omega (arith, below c, c.requires.1.in_d);
+  in_a = omega (arith, c.loop-j-test.true, c.requires.in_a);
+  in_b = omega (arith, c.loop-j-test.true, c.requires.in_b);
+  in_c = omega (arith, c.loop-j-test.true, c.requires.in_c);
+  in_d = omega (arith, c.loop-j-test.true, c.requires.in_d);
 }
-
--- and is read from their part of the slots
-read : (c : In-loop-j) → get_or (take c.args.used c.args.vals.now) c.loop-j.j 𝟘 ≡ value_in c.args.vals.now c.loop-j.j
-read c = get_or-take c.args.used c.args.vals.now c.loop-j.j 𝟘 (below c)
 
 pub loop-j-preserved : goal.loop-j-preserved
 unfolding 𝟘
 loop-j-preserved c =
     let at = (goal.at.loop-j-preserved c).In-loop-j in (
-      publishing_next c.args.vals.now (columns_of c.args.self.now) c.loop-j.invariant.0 (fits at)
-          (to_z-of_z {w = w32} (search rules) ∙ ap (λ (x : Entry). x.a) (read at))
-          (to_z-of_z {w = w32} (search rules) ∙ ap (λ (x : Entry). x.b) (read at))
-          (to_z-of_z {w = w32} (search rules) ∙ ap (λ (x : Entry). x.c) (read at))
-          (to_z-of_z {w = w32} (search rules) ∙ ap (λ (x : Entry). x.d) (read at)),
+      publishing_next c.args.terminals.now (columns_of c.args.self.now) c.loop-j.invariant.0 (fits at)
+          (to_z-of_z {w = w32} (search rules))
+          (to_z-of_z {w = w32} (search rules))
+          (to_z-of_z {w = w32} (search rules))
+          (to_z-of_z {w = w32} (search rules)),
       let h = c.loop-j.invariant.1 in
           record {
             level = h.level;
@@ -66,6 +54,5 @@ loop-j-preserved c =
 
 pub returns-clause-published : goal.returns-clause-published
 returns-clause-published c =
-    let at = c.args in
-    let all : c.loop-j.j ≡ at.used = omega (arith, length-take-le at.used at.vals.now c.requires.0, c.loop-j-test.false, c.loop-j.auto.j-end) in
-    rw (← all) (publishing_all at.vals.now (columns_of at.self.now) c.loop-j.invariant.0)
+    publishing_all c.args.terminals.now (columns_of c.args.self.now) c.loop-j.invariant.0
+    (omega (arith, c.loop-j-test.false, c.loop-j.auto.j-end))

@@ -4,4 +4,4 @@ use Rattle.stores.proofs.Stores.{Publishing}
 use Rattle.stores.proofs.Store.publish.Given as goal
 
 abbrev pub invariant-loop-j : goal.invariant-loop-j
-invariant-loop-j l = Publishing l.vals (columns_of l.initial.self) (columns_of l.self) l.j × SameColumns l.initial.self l.self
+invariant-loop-j l = Publishing l.terminals (columns_of l.initial.self) (columns_of l.self) l.j × SameColumns l.initial.self l.self

@@ -1,27 +1,36 @@
 -- `uniques::NodeTable::make` meets its contract: by what the search answers, the node is found, appended, or has no slot. Assumes nothing.
-use mathlib.Core.Path.{refl}
-use Prim.Native.Nat.{◌+◌, ◌<◌}
+use mathlib.Core.Path.{◌≡◌, refl, ◌∙◌, ap}
+use Prim.Native.Nat.{ℕ, ◌+◌, ◌<◌}
 use native.Mathlib.Omega.{arith}
-use lib.ListN.{length, length-set}
-use Rattle.diagrams.specs.Diagram.{branch, ref_of}
+use lib.ListN.{length, get_or}
+use Rattle.diagrams.specs.Diagram.{Node, branch, ref_of}
+use Rattle.diagrams.proofs.References.{code_ref_of}
+use Rattle.uniques.specs.UniqueTable.{node_hash}
 use Rattle.uniques.proofs.Hashes.{node_hash_below}
 use Rattle.uniques.proofs.NodeTables.{InColumns, in_columns, used_is, made_found, made_full, made_next}
-use Rattle.uniques.proofs.NodeTable.make.Goals.{After-hash_node, Else-i-self}
+use Rattle.uniques.proofs.NodeTable.make.Goals.{After-spread, Else-slot-self}
 use Rattle.uniques.proofs.NodeTable.make.Goals as goal
 
+abbrev wanted : (c : After-spread) → Node
+wanted c = branch c.args.node.level (ref_of c.args.node.low) (ref_of c.args.node.high)
+
+-- the three numbers are spread as the node is
+hashed : (c : After-spread) → c.spread.result ≡ node_hash c.args.self.now.heads (wanted c)
+unfolding node_hash
+hashed c = c.spread.ensures ∙ simp (code_ref_of, c.from.ensures)
+
 -- the head of the chain is in the index
-head_in : (c : After-hash_node) → length c.args.self.now.level.now + c.hash_node.result < length c.args.self.now.index.now
+head_in : (c : After-spread) → length c.args.self.now.level.now + c.spread.result < length c.args.self.now.index.now
 head_in c =
     let t = c.args.self.now in
     let held = c.requires in
-    let below = node_hash_below t.heads (branch c.args.lv (ref_of c.args.lo) (ref_of c.args.hi)) held.indexed.some_head in
-    omega (arith, c.hash_node.ensures, below, held.indexed.long)
+    omega (arith, hashed c, node_hash_below t.heads (wanted c) held.indexed.some_head, held.indexed.long)
 
 -- a slot is left
-left : (c : Else-i-self) → c.args.self.now.used < length c.args.self.now.level.now
-left c = omega (arith, used_is c.args.self.now, c.requires.indexed.room, c.if-i-self.false)
+left : (c : Else-slot-self) → c.args.self.now.used < length c.args.self.now.level.now
+left c = omega (arith, used_is c.args.self.now, c.requires.indexed.room, c.if-slot-self.false)
 
-free : (c : Else-i-self) → let t = c.args.self.now in InColumns t.level.now t.low.now t.high.now t.index.now t.used
+free : (c : Else-slot-self) → let t = c.args.self.now in InColumns t.level.now t.low.now t.high.now t.index.now t.used
 free c = in_columns c.requires c.args.self.now.used (left c)
 
 pub overflow_add-head : goal.overflow_add-head
@@ -31,51 +40,52 @@ pub offset_bounds-self-head : goal.offset_bounds-self-head
 offset_bounds-self-head c = omega (arith, head_in c, c.well_formed)
 
 pub bounds-self-head : goal.bounds-self-head
-bounds-self-head c = head_in ((goal.at.bounds-self-head c).After-hash_node)
+bounds-self-head c = head_in ((goal.at.bounds-self-head c).After-spread)
+
+pub find-requires-clause-chain : goal.find-requires-clause-chain
+find-requires-clause-chain c =
+    let t = c.args.self.now in
+    ap (λ (h : ℕ). get_or t.index.now (length t.level.now + h) 0) (hashed ((goal.at.find-requires-clause-chain c).After-spread))
 
 pub returns-in-Some-clause-made : goal.returns-in-Some-clause-made
 returns-in-Some-clause-made c =
     let at = c.args in
-    made_found at.self.now at.self.now c.requires at.lv at.lo at.hi c.if-lo-hi.false c.in-Some.i c.in-Some.ensures (refl, refl, refl, refl, refl)
+    made_found at.self.now at.self.now c.requires at.node.level at.node.low at.node.high c.if-node.false
+    c.in-Some.i c.in-Some.ensures (refl, refl, refl, refl, refl)
 
-pub returns-then-i-self-clause-made : goal.returns-then-i-self-clause-made
-returns-then-i-self-clause-made c =
+pub returns-then-slot-self-clause-made : goal.returns-then-slot-self-clause-made
+returns-then-slot-self-clause-made c =
     let at = c.args in
-    made_full at.self.now at.self.now c.requires at.lv at.lo at.hi c.if-lo-hi.false c.in_default.ensures (omega (arith, c.if-i-self.true))
+    made_full at.self.now at.self.now c.requires at.node.level at.node.low at.node.high c.if-node.false
+    c.in_default.ensures (omega (arith, c.if-slot-self.true))
     (refl, refl, refl, refl, refl)
 
-pub bounds-self-i : goal.bounds-self-i
-bounds-self-i c = (free ((goal.at.bounds-self-i c).Else-i-self)).in_level
+pub bounds-self-slot : goal.bounds-self-slot
+bounds-self-slot c = (free ((goal.at.bounds-self-slot c).Else-slot-self)).in_level
 
-pub bounds-self-i-2 : goal.bounds-self-i-2
-bounds-self-i-2 c = (free ((goal.at.bounds-self-i-2 c).Else-i-self)).in_low
+pub bounds-self-slot-2 : goal.bounds-self-slot-2
+bounds-self-slot-2 c = (free ((goal.at.bounds-self-slot-2 c).Else-slot-self)).in_low
 
-pub bounds-self-i-3 : goal.bounds-self-i-3
-bounds-self-i-3 c = (free ((goal.at.bounds-self-i-3 c).Else-i-self)).in_high
+pub bounds-self-slot-3 : goal.bounds-self-slot-3
+bounds-self-slot-3 c = (free ((goal.at.bounds-self-slot-3 c).Else-slot-self)).in_high
 
-pub bounds-self-i-4 : goal.bounds-self-i-4
-bounds-self-i-4 c = (free ((goal.at.bounds-self-i-4 c).Else-i-self)).in_index
+pub link-requires : goal.link-requires
+link-requires c =
+    let at = free ((goal.at.link-requires c).Else-slot-self) in
+    (at.in_index, head_in ((goal.at.link-requires c).After-spread), omega (arith, at.small))
 
 pub overflow_add-self : goal.overflow_add-self
-overflow_add-self c = omega (arith, (free ((goal.at.overflow_add-self c).Else-i-self)).small)
-
-pub offset_bounds-self-head-2 : goal.offset_bounds-self-head-2
-offset_bounds-self-head-2 c = omega (arith, head_in ((goal.at.offset_bounds-self-head-2 c).After-hash_node), c.well_formed)
-
-pub bounds-self-head-2 : goal.bounds-self-head-2
-bounds-self-head-2 c = simp length-set (head_in ((goal.at.bounds-self-head-2 c).After-hash_node))
-
-pub overflow_add-self-2 : goal.overflow_add-self-2
-overflow_add-self-2 c = omega (arith, (free ((goal.at.overflow_add-self-2 c).Else-i-self)).small)
+overflow_add-self c = omega (arith, (free ((goal.at.overflow_add-self c).Else-slot-self)).small)
 
 pub overflow_mul-result-2 : goal.overflow_mul-result-2
-overflow_mul-result-2 c = omega (arith, (free ((goal.at.overflow_mul-result-2 c).Else-i-self)).small)
+overflow_mul-result-2 c = omega (arith, (free ((goal.at.overflow_mul-result-2 c).Else-slot-self)).small)
 
 pub overflow_add-result-2 : goal.overflow_add-result-2
-overflow_add-result-2 c = omega (arith, (free ((goal.at.overflow_add-result-2 c).Else-i-self)).small)
+overflow_add-result-2 c = omega (arith, (free ((goal.at.overflow_add-result-2 c).Else-slot-self)).small)
 
 pub returns-clause-made : goal.returns-clause-made
 returns-clause-made c =
     let at = c.args in
-    made_next at.self.now _ c.requires at.lv at.lo at.hi c.if-lo-hi.false c.hash_node.result _ c.hash_node.ensures c.in_default.ensures
-    (left ((goal.at.returns-clause-made c).Else-i-self)) refl refl refl refl refl refl
+    made_next at.self.now _ c.requires at.node.level at.node.low at.node.high c.if-node.false
+    c.spread.result _ (hashed ((goal.at.returns-clause-made c).After-spread)) c.in_default.ensures
+    (left ((goal.at.returns-clause-made c).Else-slot-self)) refl refl refl refl c.link.ensures refl
