@@ -25,7 +25,7 @@ extern "C" {
 
 /* The slots of `numbers`. A slot that the report has no value for is 0. */
 #define GANNETROPE_KIND 0          /* one of the kinds below */
-#define GANNETROPE_EXPONENT 1      /* equal, different: the miter's power of the square root of 2 */
+#define GANNETROPE_EXPONENT 1      /* equal, different: the miter's power of the square root of 2, the least possible */
 #define GANNETROPE_STEPS 2         /* equal, different: gates of both lists */
 #define GANNETROPE_NODES 3         /* equal, different: used node slots of the first store */
 #define GANNETROPE_VALUES 4        /* equal, different: used value slots of the first store */
@@ -45,17 +45,18 @@ extern "C" {
 #define GANNETROPE_ENTRY 0  /* equal: the factor; different: the first forbidding entry */
 #define GANNETROPE_CORNER 4 /* different: the entry at row 0, column 0 */
 
-/* Bytes of stack that are enough for a call of gannetrope_judge. The most that was seen in use is 943, 795,087 and 4,727,247. */
+/* Bytes of stack that are enough for a call of gannetrope_judge. The most that was seen in use is 943, 795,103 and 4,727,263. */
 #define GANNETROPE_STACK_REFUSED 65536 /* refused with 1 to 12 or 17, before any step */
 #define GANNETROPE_STACK_SMALL 1048576 /* N and L at most 4,096 */
 #define GANNETROPE_STACK_LARGE 8388608 /* any call */
 
 /*
- * Judges whether two gate lists are the same operator up to a factor.
+ * Judges whether two gate lists are the same operator up to a factor. After each step the product is divided by the
+ * square root of 2 while its exponent is above 0 and every entry is a multiple; the width (13) is tested before that.
  *
  * list1, list2   the gate lists as bytes
  * schedule       one byte for each step: 0 takes the next gate of list 1, 1 the next of list 2
- * w              the width in bits that every number must fit, 2 to 32
+ * w              the width in bits that every number of a step's product must fit, 2 to 32
  * level .. d     the first store: three node columns of one length N, at most 65,536, and four value columns of one
  *                length L, 1 to 65,536
  * other_level .. other_d

@@ -9,13 +9,17 @@ use crate::late_refusals::{self, LateRefusal};
 use crate::lent::{LARGEST, Lent};
 use crate::pair::Pair;
 use crate::program;
+use crate::samples::{self, Sample};
 use gannetrope::{Limits, Report};
 use std::fs;
 use std::io;
 use std::path::PathBuf;
 
-/// Checks the families, the late refusals, the steps by gate, the inverses, and the files of `INPUTS` if it is set. The
-/// last line that it prints is 'N passed, M failed'; it gives whether all is well.
+/// How many pairs of a sample are checked, each with its second list equal and changed.
+const PAIRS_OF_A_SAMPLE: usize = 3;
+
+/// Checks the families, the samples, the late refusals, the steps by gate, the inverses, and the files of `INPUTS` if
+/// it is set. The last line that it prints is 'N passed, M failed'; it gives whether all is well.
 pub fn all() -> io::Result<bool> {
     let mut checker = Checker { program: program::path(), passed: 0, failed: 0 };
     if checker.program.is_none() {
@@ -23,6 +27,9 @@ pub fn all() -> io::Result<bool> {
     }
     for case in families::all() {
         checker.check_case(&case);
+    }
+    for sample in samples::all() {
+        checker.check_sample(&sample);
     }
     for late in late_refusals::all() {
         checker.check_late_refusal(&late);
@@ -54,6 +61,15 @@ impl Checker {
         self.check_pair(&case.name(), &pair, |report| case.check_made(report));
     }
 
+    /// The first pairs of a sample at the settings at which they are counted.
+    fn check_sample(&mut self, sample: &Sample) {
+        for (number, case) in sample.pairs().take(PAIRS_OF_A_SAMPLE).flatten().enumerate() {
+            let name = format!("{}, number {number}", case.name());
+            let pair = Pair::new(&case.first, &case.second);
+            self.check_as_program(&name, &pair, |report| case.check_unless_refused(report));
+        }
+    }
+
     fn check_late_refusal(&mut self, late: &LateRefusal) {
         let name = late.name();
         let at_its_limits = check_at(&late.refused(), late.limits)
@@ -66,12 +82,17 @@ impl Checker {
     /// A pair with the largest stores and with the verdict program's, and the program's line.
     fn check_pair(&mut self, name: &str, pair: &Pair, check_made: impl FnOnce(&Report) -> Agreement) {
         self.count(name, check_at(pair, LARGEST).and_then(|report| check_made(&report)));
+        self.check_as_program(name, pair, |_| Ok(()));
+    }
+
+    /// A pair with the verdict program's stores, and the program's line.
+    fn check_as_program(&mut self, name: &str, pair: &Pair, check_made: impl FnOnce(&Report) -> Agreement) {
         let small = check_at(pair, Limits::default());
         if let (Ok(report), Some(program)) = (&small, &self.program) {
             let line = program::check(program, pair, report);
             self.count(name, line);
         }
-        self.count(name, small.map(drop));
+        self.count(name, small.and_then(|report| check_made(&report)));
     }
 
     fn count(&mut self, name: &str, outcome: Agreement) {

@@ -51,6 +51,9 @@ impl Code {
     /// The codes without a mask of controls.
     pub const UNMASKED: &'static [Code] = Code::ALL.split_at(Code::Toffoli as usize).0;
 
+    /// The same and the Toffoli gate's.
+    pub const ALL_BUT_FREDKIN: &'static [Code] = Code::ALL.split_at(Code::Fredkin as usize).0;
+
     /// How many controls a gate of this code has at least.
     pub fn least_controls(self) -> u32 {
         match self {

@@ -54,13 +54,12 @@ pub fn heading() -> String {
 }
 
 fn line(case: &Case, verdict: &str, row: &Row) -> String {
-    let gates = format!("{}+{}", case.first.gates.len(), case.second.gates.len());
     format!(
         "{:<18} {:<11} {:>6} {:>9} {:<9} {:>6} {:>11.1} {:>8.1} {:>11.1} {:>6.3}",
         case.family,
         case.second_is,
         row.qubits,
-        gates,
+        case.gates(),
         verdict,
         row.work.peak_nodes,
         microseconds(row.library),

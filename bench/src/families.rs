@@ -28,10 +28,20 @@ impl Case {
         format!("{family}, {second_is}, {qubits} qubits, {gates} gates")
     }
 
+    /// How many gates the lists have.
+    pub fn gates(&self) -> String {
+        format!("{}+{}", self.first.gates.len(), self.second.gates.len())
+    }
+
     /// Whether a report is what the lists were made for.
     pub fn check_made(&self, report: &Report) -> Agreement {
         let made = if self.is_equal { "equal" } else { "different" };
         if verdict::word(report) == made { Ok(()) } else { Err(format!("{report}, but made to be {made}")) }
+    }
+
+    /// Whether a report is a refusal or what the lists were made for.
+    pub fn check_unless_refused(&self, report: &Report) -> Agreement {
+        if verdict::is_refused(report) { Ok(()) } else { self.check_made(report) }
     }
 }
 
@@ -107,6 +117,17 @@ pub fn masked_gate(code: Code, qubits: u8, controls: usize, random: &mut Random)
 pub fn random_list(qubits: u8, count: usize, codes: &[Code], random: &mut Random) -> Circuit {
     let gates = (0..count).map(|_| random_gate(qubits, codes, random)).collect();
     Circuit { qubits, gates }
+}
+
+/// An H on every qubit.
+pub fn h_layer(qubits: u8) -> impl Iterator<Item = Gate> {
+    (0..qubits).map(|qubit| Gate::one(Code::H, qubit))
+}
+
+/// The list after an H layer.
+pub fn after_h_layer(mut circuit: Circuit) -> Circuit {
+    circuit.gates.splice(..0, h_layer(circuit.qubits));
+    circuit
 }
 
 /// Random Clifford+T lists, three gates in ten rewritten.

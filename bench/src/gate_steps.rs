@@ -2,7 +2,7 @@
 
 use crate::agreement;
 use crate::circuit::{Code, Gate, MOST_QUBITS, bit, mask};
-use crate::families::random_list;
+use crate::families::{after_h_layer, random_list};
 use crate::lent::{LARGEST, Lent};
 use crate::pair::{Pair, Step};
 use crate::random::Random;
@@ -14,8 +14,8 @@ const SEED: u64 = 2;
 /// How many Toffoli and Fredkin gates follow the H gates; each number leaves a larger diagram.
 const SCRAMBLES: [usize; 4] = [6, 8, 10, 13];
 
-/// How often the gate is done and undone, so that its time stands out from the noise of whole runs. More H gates would
-/// leave 32 bits.
+/// How often the gate is done and undone, so that its time stands out from the noise of whole runs. No more, as when
+/// exponents were kept and more H gates left 32 bits, so that times compare with earlier ones.
 const REPETITIONS: u32 = 3;
 
 /// A gate after the steps that make a diagram.
@@ -31,10 +31,9 @@ pub fn all() -> Vec<Trial> {
 
 /// An H on every qubit, then so many Toffoli and Fredkin gates with as few controls as they may have.
 fn scrambled(count: usize) -> Vec<Step> {
-    let mut gates: Vec<Gate> = (0..MOST_QUBITS).map(|qubit| Gate::one(Code::H, qubit)).collect();
     let codes = [Code::Toffoli, Code::Fredkin];
-    gates.extend(random_list(MOST_QUBITS, count, &codes, &mut Random::new(SEED)).gates);
-    gates.into_iter().map(step).collect()
+    let list = after_h_layer(random_list(MOST_QUBITS, count, &codes, &mut Random::new(SEED)));
+    list.gates.into_iter().map(step).collect()
 }
 
 fn step(gate: Gate) -> Step {

@@ -1,10 +1,11 @@
 //! The benchmark: the proved library beside a plain hash-map implementation, over circuits made by seed.
 //!
 //! `--check` compares reports and stores without timing. `GANNETROPE_VERDICT` names the verdict program; `REFERENCE`
-//! and `INPUTS` a reference program and a folder of inputs to time it on. It exits with 1 if anything differs, or if a
-//! refused step takes too long.
+//! and `INPUTS` a reference program and a folder of inputs to time it on. It exits with 1 if anything differs, if an
+//! answer that was had before exponents were lowered is lost, or if a refused step takes too long.
 
 mod agreement;
+mod answers;
 mod check;
 mod circuit;
 mod comparison;
@@ -24,6 +25,7 @@ mod random;
 mod reference;
 mod refused_steps;
 mod rewrite;
+mod samples;
 mod timing;
 mod toffoli;
 mod verdict;
@@ -57,6 +59,7 @@ fn measure() -> io::Result<bool> {
     println!("machine: {}\n", machine::description());
     let mut failures = Vec::new();
     measure_families(&mut failures);
+    count_answers(&mut failures);
     measure_refusals(&mut failures);
     measure_gate_steps(&mut failures);
     measure_inverses(&mut failures);
@@ -79,6 +82,13 @@ fn measure_families(failures: &mut Vec<String>) {
     let cases = families::all();
     let rows = successes(cases.iter().map(comparison::measure), failures);
     println!("\n{}", comparison::summary(&rows));
+}
+
+fn count_answers(failures: &mut Vec<String>) {
+    println!("what is answered\n{}", answers::heading());
+    let samples = samples::all();
+    let rows = successes(samples.iter().map(answers::count), failures);
+    println!("{}\n", answers::summary(&rows));
 }
 
 fn measure_refusals(failures: &mut Vec<String>) {

@@ -1,7 +1,7 @@
 //! The pairs with Toffoli and Fredkin gates.
 
 use crate::circuit::{Circuit, Code, Gate, bit};
-use crate::families::{Case, adder, masked_gate, pairs, random_list};
+use crate::families::{Case, adder, after_h_layer, masked_gate, pairs, random_list};
 use crate::random::Random;
 use crate::rewrite::rewritten;
 use crate::toffoli;
@@ -26,29 +26,18 @@ pub fn all() -> Vec<Case> {
 /// One of those with which every list has enough Toffoli gates and no pair has too many H gates.
 const RANDOM_SEED: u64 = 40;
 
-/// Random Clifford+T lists with Toffoli gates of two controls, after an H on every qubit, against their networks.
+/// Random Clifford+T lists with Toffoli gates of two controls, after an H layer, against the Toffoli gates' networks.
 fn random_pairs(qubits: u8) -> Vec<Case> {
-    let codes = [Code::UNMASKED, &[Code::Toffoli]].concat();
     let mut cases = Vec::new();
     for gates_per_qubit in [3, 5] {
         let seed = RANDOM_SEED + 100 * gates_per_qubit + u64::from(qubits);
         let random = &mut Random::new(seed);
         let count = gates_per_qubit as usize * usize::from(qubits);
-        let mut first = random_list(qubits, count, &codes, random);
-        first.gates.splice(..0, (0..qubits).map(|qubit| Gate::one(Code::H, qubit)));
-        let equal = by_networks(&first);
+        let first = after_h_layer(random_list(qubits, count, Code::ALL_BUT_FREDKIN, random));
+        let equal = toffoli::by_networks(&first, toffoli::network);
         cases.extend(pairs("Toffoli random", first, ("networks", equal), random));
     }
     cases
-}
-
-/// The list with each Toffoli gate, of two controls, by its network.
-fn by_networks(circuit: &Circuit) -> Circuit {
-    let network = |gate: &Gate| match gate.code {
-        Code::Toffoli => toffoli::network_of(*gate),
-        _ => vec![*gate],
-    };
-    Circuit { qubits: circuit.qubits, gates: circuit.gates.iter().flat_map(network).collect() }
 }
 
 /// The adder with Toffoli gates by their code: against the networks, and against itself.

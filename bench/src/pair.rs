@@ -1,7 +1,7 @@
 //! A pair of lists as bytes with its schedule, ready to be judged.
 
 use crate::circuit::{Circuit, Gate, join_lists, split_lists};
-use crate::hashed::{self, Judged};
+use crate::hashed::{self, Exponents, Judged};
 use crate::lent::Lent;
 use gannetrope::{Limits, Report, judge_in, proportional};
 
@@ -64,7 +64,16 @@ impl Pair {
     }
 
     pub fn judge_by_hash_maps(&self, limits: Limits) -> Judged {
-        hashed::judge(&self.list1, &self.list2, &self.schedule, limits)
+        self.judge_with(Exponents::Lowered, limits)
+    }
+
+    /// As it was judged before exponents were lowered.
+    pub fn judge_with_kept_exponents(&self, limits: Limits) -> Judged {
+        self.judge_with(Exponents::Kept, limits)
+    }
+
+    fn judge_with(&self, exponents: Exponents, limits: Limits) -> Judged {
+        hashed::judge(&self.list1, &self.list2, &self.schedule, limits, exponents)
     }
 }
 

@@ -4,12 +4,23 @@ use crate::circuit::{Circuit, Code, Gate};
 use crate::random::Random;
 use crate::toffoli::{fredkin_templates, toffoli_templates};
 
-/// With so many H gates in both lists together, every number of a miter lies within 32 bits.
+/// With so many H gates in both lists together, every number of a miter lies within 32 bits even if no exponent is
+/// lowered.
 pub const MOST_H: usize = 61;
 
-/// Each gate by an equal template with the given chance, as far as the H gates allow.
+/// Each gate by an equal template with the given chance, as far as `MOST_H` allows.
 pub fn rewritten(circuit: &Circuit, percent: usize, random: &mut Random) -> Circuit {
-    let mut spare_h = MOST_H.saturating_sub(2 * circuit.count(Code::H));
+    let spare_h = MOST_H.saturating_sub(2 * circuit.count(Code::H));
+    rewritten_within(spare_h, circuit, percent, random)
+}
+
+/// Each gate by an equal template with the given chance, with any number of H gates.
+pub fn rewritten_freely(circuit: &Circuit, percent: usize, random: &mut Random) -> Circuit {
+    rewritten_within(usize::MAX, circuit, percent, random)
+}
+
+/// Each gate by an equal template with the given chance, as far as the H gates that may be added allow.
+fn rewritten_within(mut spare_h: usize, circuit: &Circuit, percent: usize, random: &mut Random) -> Circuit {
     let mut gates = Vec::new();
     for &gate in &circuit.gates {
         if !random.percent(percent) {

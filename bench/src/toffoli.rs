@@ -1,6 +1,6 @@
 //! Toffoli and Fredkin gates made of other gates.
 
-use crate::circuit::{Code, Gate, bit};
+use crate::circuit::{Circuit, Code, Gate, bit};
 
 /// How many controls the networks have.
 const NETWORK_CONTROLS: u32 = 2;
@@ -37,10 +37,16 @@ pub fn other_network(a: u8, b: u8, t: u8) -> Vec<Gate> {
     crate::rewrite::inverted(&network(b, a, t))
 }
 
-/// The network of a Toffoli gate with two controls.
-pub fn network_of(gate: Gate) -> Vec<Gate> {
-    let (a, b) = two_controls(gate);
-    network(a, b, gate.target)
+/// The list with each Toffoli gate, of two controls, by a network.
+pub fn by_networks(circuit: &Circuit, network: fn(u8, u8, u8) -> Vec<Gate>) -> Circuit {
+    let expanded = |&gate: &Gate| match gate.code {
+        Code::Toffoli => {
+            let (a, b) = two_controls(gate);
+            network(a, b, gate.target)
+        }
+        _ => vec![gate],
+    };
+    Circuit { qubits: circuit.qubits, gates: circuit.gates.iter().flat_map(expanded).collect() }
 }
 
 fn two_controls(gate: Gate) -> (u8, u8) {

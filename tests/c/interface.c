@@ -22,10 +22,11 @@ struct lent {
 
 static struct lent lent, untouched;
 
-/* two qubits: CNOT 0 1; H 1, CZ 0 1, H 1; CNOT 1 0; Toffoli with one control */
+/* two qubits: CNOT 0 1; H 1, CZ 0 1, H 1; CNOT 1 0; CNOT 0 1, H 0, H 1; Toffoli with one control */
 static const uint8_t cnot[] = {2, 1, 8, 0, 1};
 static const uint8_t by_cz[] = {2, 3, 3, 1, 9, 0, 1, 3, 1};
 static const uint8_t turned[] = {2, 1, 8, 1, 0};
+static const uint8_t with_h[] = {2, 3, 8, 0, 1, 3, 0, 3, 1};
 static const uint8_t few[] = {2, 1, 10, 1, 1};
 static const uint8_t schedule[] = {0, 1, 1, 1};
 
@@ -114,6 +115,8 @@ int main(void) {
     print_report("equal", judge(by_cz, sizeof by_cz, 4, numbers, entries));
     print_first_store();
     print_report("different, longer slots", judge(turned, sizeof turned, 2, numbers + 1, entries + 1));
+    print_report("different by two H", judge(with_h, sizeof with_h, 4, numbers, entries));
+    printf("  exponent %" PRIu64 "\n", lent.numbers[GANNETROPE_EXPONENT]);
     print_report("list 2 cut", judge(turned, sizeof turned - 1, 2, numbers, entries));
     print_report("too few controls", judge(few, sizeof few, 2, numbers, entries));
     print_report("schedule too long", judge(turned, sizeof turned, 3, numbers, entries));

@@ -76,6 +76,16 @@ pub fn random_circuit(random: &mut Random, qubits: u32, gates: usize) -> Circuit
     Circuit { qubits, gates: (0..gates).map(|_| random_gate(random, qubits)).collect() }
 }
 
+/// A random circuit of at most so many gates, about half of them H.
+pub fn with_many_h(random: &mut Random, qubits: u32, most_gates: usize) -> Circuit {
+    let gate = |random: &mut Random| match random.below(2) {
+        0 => random_gate_of(random, H, qubits),
+        _ => random_gate(random, qubits),
+    };
+    let gates = random.below(most_gates + 1);
+    Circuit { qubits, gates: (0..gates).map(|_| gate(random)).collect() }
+}
+
 pub fn random_gate(random: &mut Random, qubits: u32) -> Gate {
     let codes = match qubits {
         1 => ON_ONE_QUBIT,

@@ -41,7 +41,7 @@ fn run_groups() -> ExitCode {
     let seed = env::var("GANNETROPE_SEED").map_or(1, |seed| seed.parse().expect("a seed is a number"));
     println!("seed {seed}");
 
-    let groups: [Group; 25] = [
+    let groups: [Group; 26] = [
         ("dense", Box::new(|tally| groups::dense_itself::run(tally, seed))),
         ("paper", Box::new(groups::paper::run)),
         ("refusals", Box::new(|tally| groups::refusals::run(tally, seed))),
@@ -50,6 +50,7 @@ fn run_groups() -> ExitCode {
         ("random", Box::new(|tally| groups::random_pairs::run(tally, seed))),
         ("answer", Box::new(|tally| groups::one_answer::run(tally, seed))),
         ("widths", Box::new(groups::widths::run)),
+        ("lowering", Box::new(|tally| groups::lowering::run(tally, seed))),
         ("places", Box::new(groups::places::run)),
         ("controls", Box::new(|tally| groups::controls::run(tally, seed))),
         ("qubits", Box::new(|tally| groups::many_qubits::run(tally, seed))),

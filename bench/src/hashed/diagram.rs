@@ -1,5 +1,6 @@
 //! Reduced diagrams: levels ask in turn for the row bit and the column bit of qubit 0, 1, ..; terminals are entries.
 
+use super::entries::{divided, is_divisible};
 use gannetrope::{Entry, Limits, Store};
 use std::collections::HashMap;
 
@@ -71,6 +72,16 @@ impl Diagram {
 
     pub fn is_value(&self, reference: Reference, entry: Entry) -> bool {
         !reference.is_node() && self.value(reference) == entry
+    }
+
+    /// Divides every entry by √2 if each is a multiple of it, and gives whether it did. Dividing is one-to-one, so the
+    /// nodes stay.
+    pub fn divide(&mut self) -> bool {
+        let all_divisible = self.values.iter().copied().all(is_divisible);
+        if all_divisible {
+            self.values.iter_mut().for_each(|value| *value = divided(*value));
+        }
+        all_divisible
     }
 
     /// A store of such limits that holds the diagram in its first slots and 0 in all others.

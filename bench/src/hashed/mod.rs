@@ -2,6 +2,7 @@
 //! table are the standard library's hash maps with their default hasher. Of the binding only plain types are used.
 
 mod diagram;
+mod entries;
 mod search;
 mod step;
 
@@ -12,6 +13,15 @@ use crate::verdict::{NO_ROOM, OUTSIDE_WIDTH};
 use diagram::Builder;
 use gannetrope::{Limits, Refusal, Report, Verdict};
 use step::{Action, ComputedTable, Side};
+
+/// What is done about the exponent of √2 after a step.
+#[derive(Clone, Copy, PartialEq, Eq)]
+pub enum Exponents {
+    /// It is lowered while all entries can be divided by √2.
+    Lowered,
+    /// It stays the number of H gates, as it did before exponents were lowered (S-4).
+    Kept,
+}
 
 /// What a run came to, and how large its diagrams were.
 pub struct Judged {
@@ -43,10 +53,10 @@ impl Work {
 }
 
 /// Judges two well-formed lists with equal qubit counts by a schedule that fits.
-pub fn judge(first: &[u8], second: &[u8], schedule: &[u8], limits: Limits) -> Judged {
+pub fn judge(first: &[u8], second: &[u8], schedule: &[u8], limits: Limits, exponents: Exponents) -> Judged {
     let first = Circuit::decode(first).expect("list 1 is well formed");
     let second = Circuit::decode(second).expect("list 2 is well formed");
-    let mut run = Run::new(first.qubits, limits);
+    let mut run = Run::new(first.qubits, limits, exponents);
     let (report, diagram) = match run.take_all(&first.gates, &second.gates, schedule) {
         Ok(()) => (run.report(), run.miter),
         Err(number) => (Report::refused(Refusal::Step { number, steps: run.steps }), Diagram::default()),
@@ -56,6 +66,7 @@ pub fn judge(first: &[u8], second: &[u8], schedule: &[u8], limits: Limits) -> Ju
 
 struct Run {
     limits: Limits,
+    exponents: Exponents,
     qubits: u8,
     /// The miter after the steps so far.
     miter: Diagram,
@@ -68,9 +79,10 @@ struct Run {
 }
 
 impl Run {
-    fn new(qubits: u8, limits: Limits) -> Run {
+    fn new(qubits: u8, limits: Limits, exponents: Exponents) -> Run {
         Run {
             limits,
+            exponents,
             qubits,
             miter: Diagram::default(),
             builder: Builder::default(),
@@ -105,10 +117,20 @@ impl Run {
         if !inside {
             return Err(OUTSIDE_WIDTH);
         }
+        self.exponent += u32::from(gate.code == Code::H);
+        if self.exponents == Exponents::Lowered {
+            self.lower();
+        }
         self.accept()?;
         self.steps += 1;
-        self.exponent += u32::from(gate.code == Code::H);
         Ok(())
+    }
+
+    /// Divides what was built by √2 as often as the exponent allows and every entry can be.
+    fn lower(&mut self) {
+        while self.exponent > 0 && self.builder.diagram.divide() {
+            self.exponent -= 1;
+        }
     }
 
     /// What was built becomes the miter, if it is within the limits.

@@ -1,8 +1,8 @@
 //! One step: the product of a diagram and a gate, by a walk that goes low before high.
 
 use super::diagram::{Builder, Diagram, PAST_ALL, Reference};
+use super::entries::{narrow, times_w8, wide};
 use crate::circuit::{Code, Gate, MOST_QUBITS, bit};
-use gannetrope::Entry;
 use std::collections::HashMap;
 use std::ops::RangeInclusive;
 
@@ -205,7 +205,7 @@ impl Walk<'_> {
         let numbers = match state.mode {
             Mode::Plus => std::array::from_fn(|i| x[i] + y[i]),
             Mode::Minus => std::array::from_fn(|i| x[i] - y[i]),
-            Mode::Turned { power } => times_root(y, power),
+            Mode::Turned { power } => times_w8(y, power),
             Mode::Acting { .. } | Mode::Swapping { .. } => unreachable!("the gate still asks"),
         };
         if numbers.iter().any(|number| !self.range.contains(number)) {
@@ -217,21 +217,4 @@ impl Walk<'_> {
 
 fn turned(reference: Reference, power: u8) -> State {
     State { x: reference, y: reference, mode: Mode::Turned { power } }
-}
-
-fn wide(entry: Entry) -> [i64; 4] {
-    [entry.a, entry.b, entry.c, entry.d].map(i64::from)
-}
-
-fn narrow(numbers: [i64; 4]) -> Entry {
-    let [a, b, c, d] = numbers.map(|number| number as i32);
-    Entry { a, b, c, d }
-}
-
-fn times_root(mut numbers: [i64; 4], power: u8) -> [i64; 4] {
-    for _ in 0..power {
-        let [a, b, c, d] = numbers;
-        numbers = [b, c, d, -a];
-    }
-    numbers
 }

@@ -8,7 +8,7 @@ use crate::{Columns, Entry, Node, Report, Schedule, Store, raw, with_stack};
 /// What a call may use: the width of its numbers and the sizes of its stores.
 #[derive(Clone, Copy, Debug, PartialEq, Eq)]
 pub struct Limits {
-    /// The width in bits that every number must fit, 2 to 32.
+    /// The width in bits that every number of a step's product must fit, 2 to 32.
     pub width: u32,
     /// How many nodes a diagram may have, at most [`MOST_SLOTS`].
     pub nodes: usize,
@@ -69,8 +69,8 @@ impl Judged {
 /// let two_h = [1, 2, 3, 0, 3, 0]; // one qubit, two gates: H 0, H 0
 /// let empty = [1, 0];
 /// let judged = judge(&two_h, &empty, Schedule::Proportional, Limits::default());
-/// assert_eq!(judged.report().verdict, Verdict::Equal { factor: Entry::new(0, 0, 0, 2) });
-/// assert_eq!(judged.report().exponent, 2);
+/// assert_eq!(judged.report().verdict, Verdict::Equal { factor: Entry::new(0, 0, 0, 1) });
+/// assert_eq!(judged.report().exponent, 0);
 /// ```
 pub fn judge(list1: &[u8], list2: &[u8], schedule: Schedule<'_>, limits: Limits) -> Judged {
     // one slot over the limit is refused like any number over it

@@ -37,7 +37,7 @@ impl fmt::Display for Entry {
 pub struct Report {
     /// The answer itself.
     pub verdict: Verdict,
-    /// The power of √2 that every entry of the miter is divided by.
+    /// The power of √2 that every entry of the miter is divided by, the least possible.
     pub exponent: u32,
     /// How many gates were applied: those of both lists.
     pub steps: u32,
@@ -121,7 +121,8 @@ pub enum Refusal {
         /// The offset in that list.
         offset: u32,
     },
-    /// A step: 13 a number outside the width, 14 more nodes or values than the stores hold.
+    /// A step: 13 a number of its product outside the width, before it is divided; 14 more nodes or values than the
+    /// stores hold.
     Step {
         /// The refusal's number.
         number: u32,

@@ -1,7 +1,8 @@
 -- An entry is a multiple of √2 exactly if a + c and b + d are even; then `over_√2` is the one entry that it is √2 times.
 -- Assumes nothing.
-use mathlib.Core.Path.{◌≡◌, sym, ◌∙◌, ap, ap₂}
+use mathlib.Core.Path.{◌≡◌, refl, sym, ◌∙◌, ap, ap₂}
 use mathlib.Core.Bool.{true, ◌&&◌, beq, and-eq-true_iff}
+use mathlib.Core.List.{List, [], ◌∷◌, map}
 use lib.IntN.{ℤ, neg_ℤ, ◌+ℤ◌, ◌-ℤ◌, +ℤ_comm}
 use Rattle.algebra.specs.declared.Entry.{Entry}
 use Rattle.algebra.specs.Entry.{◌⊕◌, times_√2}
@@ -54,3 +55,7 @@ times_over x e = times_√2_injective (times_√2 (over_√2 x)) x (times_√2_t
 
 pub over_times : (y : Entry) → over_√2 (times_√2 y) ≡ y
 over_times y = times_√2_injective (over_√2 (times_√2 y)) y (times_over (times_√2 y) (times_√2_divisible y))
+
+pub map_over_times : (vs : List Entry) → map over_√2 (map times_√2 vs) ≡ vs
+map_over_times [] = refl
+map_over_times (x ∷ vs) = ap₂ (λ (y : Entry) (l : List Entry). y ∷ l) (over_times x) (map_over_times vs)

@@ -232,6 +232,9 @@ unfolding √2^
 √2^_add zero b = one_mul entries (√2^ b) ∙ ap √2^ (sym (nat-zero-add b))
 √2^_add (suc a) b = √2^_suc a (√2^ b) ∙ ap times_√2 (√2^_add a b) ∙ ap √2^ (sym (suc-add a b))
 
+pub √2^_split : (j k : ℕ) (x : Entry) → √2^ (j + k) ⊗ x ≡ √2^ j ⊗ (√2^ k ⊗ x)
+√2^_split j k x = ap (λ (z : Entry). z ⊗ x) (sym (√2^_add j k)) ∙ ⊗-assoc (√2^ j) (√2^ k) x
+
 pub √2^_zero : (k : ℕ) (x : Entry) → √2^ k ⊗ x ≡ 𝟘 → x ≡ 𝟘
 unfolding √2^
 √2^_zero zero x e = sym (one_mul entries x) ∙ e

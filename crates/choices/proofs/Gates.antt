@@ -41,18 +41,10 @@ gate_halves (pair CZ p q) = refl
 gate_halves (toffoli mask q) = refl
 gate_halves (fredkin mask p q) = refl
 
-pub halves_few : (g : Gate) → halves g ≤ 1
-halves_few (on X q) = omega arith
-halves_few (on Y q) = omega arith
-halves_few (on Z q) = omega arith
-halves_few (on H q) = omega arith
-halves_few (on S q) = omega arith
-halves_few (on S† q) = omega arith
-halves_few (on T q) = omega arith
-halves_few (on T† q) = omega arith
-halves_few (pair k p q) = omega arith
-halves_few (toffoli mask q) = omega arith
-halves_few (fredkin mask p q) = omega arith
+-- what the code adds to the exponent is 1 at most
+pub as_number_few : {h : ℕ} (b : Bool) → h ≡ as_number b → h ≤ 1
+as_number_few true e = omega arith
+as_number_few false e = omega arith
 
 -- ---- a gate that was read, for its side
 

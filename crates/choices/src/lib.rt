@@ -103,7 +103,7 @@ pub fn choose(lists: &mut Lists<'_>, step: u8, n: u32) -> Action
     }
 }
 
-// What a step adds to the exponent.
+// What a step adds to the exponent, before its product is divided.
 pub fn halves(action: Action) -> u32
     ensures { result ≡ as_number (does_mix action.rule.act) }
 {

@@ -5,7 +5,7 @@ use mathlib.Core.Bool.{true}
 use mathlib.Core.Logic.{◌↔◌, ◌⊎◌, inl, inr}
 use mathlib.Core.List.{List}
 use mathlib.Core.Option.{Option, none, some}
-use Prim.Native.Nat.{ℕ, zero, suc, ◌+◌}
+use Prim.Native.Nat.{ℕ, zero, suc, ◌+◌, ◌≤◌}
 use native.Mathlib.Omega.{arith}
 use lib.ListN.{length}
 use Rattle.algebra.specs.declared.Entry.{Entry}
@@ -27,7 +27,7 @@ use Rattle.miters.specs.declared.Verdict.TheVariants.{Equal as equal_with, Refus
 use Rattle.miters.specs.Miter.{steps, miter, Equal}
 use Rattle.miters.specs.Report.{lowest, forbids, verdict_by, verdict, finished, refused}
 use Rattle.miters.specs.Run.{Lent, Ended, done, stopped, Outcome, outcome, judged}
-use Rattle.miters.proofs.Schedules.{miter_power}
+use Rattle.miters.proofs.Schedules.{miter_least_power}
 use Rattle.miters.proofs.Scalars.{turns_unique}
 use Rattle.miters.specs.Claims.{Says, Ends, Answered, Agree}
 use Rattle.miters.proofs.Runs.{ended_ends, ends_only, judged_miter, two_runs}
@@ -180,9 +180,11 @@ demand_2 u v schedule w first second unrefused =
       equal_iff = subst (λ (o : Outcome). ((z : Entry) × (o.report.verdict ≡ equal_with z)) ↔ Equal n us vs) (sym is) (verdict_equal_iff n us vs fit);
       says = subst (λ (o : Outcome). Says n us vs o.report.verdict) (sym is) (verdict_says n us vs fit);
       exponent_is = ap (λ (o : Outcome). o.report.exponent) is;
+      least = λ N means.
+          subst (λ (k : ℕ). k ≤ N.power) (sym (ap (λ (o : Outcome). o.report.exponent) is)) (miter_least_power n us vs N means);
       steps_are = ap (λ (o : Outcome). o.report.steps) is;
       one_factor = λ z e turns.
-          ap (λ (k : ℕ). z ⊗ √2^ k) (ap (λ (o : Outcome). o.report.exponent) is ∙ miter_power n us vs) ∙ turns_unique n us vs fit z e turns;
+          ap (λ (k : ℕ). z ⊗ √2^ k) (ap (λ (o : Outcome). o.report.exponent) is) ∙ turns_unique n us vs fit z e turns;
     }
 
 -- ---- demand 3

@@ -1,7 +1,7 @@
 -- The three demands on the call that judges two gate lists, about `answer`, which is what the call's contract says it returns and
 -- leaves in the stores: for all lists of bytes, schedules, widths, store sizes and earlier contents. Definitions only; that they
 -- hold is in proofs/Demands.antt.
-use Rattle.std.specs.Prelude.{◌≡◌, ◌↔◌, ◌⊎◌, List, ℕ, ◌+◌, length}
+use Rattle.std.specs.Prelude.{◌≡◌, ◌↔◌, ◌⊎◌, List, ℕ, ◌+◌, ◌≤◌, length}
 use Rattle.algebra.specs.declared.Entry.{Entry}
 use Rattle.algebra.specs.Entry.{𝟘, ◌⊗◌, √2^}
 use Rattle.circuits.specs.Refusals.{base_limits}
@@ -10,10 +10,10 @@ use Rattle.diagrams.specs.Diagram.{Diagram, ReducedOf, levels, entries}
 use Rattle.stores.specs.Columns.{Columns, held, cleared}
 use Rattle.miters.specs.declared.Refusal.{Refusal}
 use Rattle.miters.specs.declared.Verdict.TheVariants.{Equal as equal_with, Refused}
-use Rattle.miters.specs.Miter.{steps, corner, miter, Turns, Equal}
+use Rattle.miters.specs.Miter.{Over, steps, corner, miter, Turns, Equal}
 use Rattle.miters.specs.Report.{refused}
 use Rattle.miters.specs.Run.{Lent, stopped, Outcome}
-use Rattle.miters.specs.Claims.{Says, Ends, Agree}
+use Rattle.miters.specs.Claims.{Says, SameMatrix, Ends, Agree}
 use Rattle.checks.specs.Checks.{lengths, Checks, refuses, passes}
 use Rattle.judges.specs.Answer.{lent, answer}
 use Rattle.judges.specs.Calls.{leaving}
@@ -69,6 +69,8 @@ pub record Demand2 (u v : List ℕ) (o : Outcome) : Type 0 where
   pub equal_iff : ((z : Entry) × (o.report.verdict ≡ equal_with z)) ↔ Equal c.qubits c.gates d.gates
   pub says : Says c.qubits c.gates d.gates o.report.verdict
   pub exponent_is : o.report.exponent ≡ (miter c.qubits c.gates d.gates).power
+  -- "The exponent in the report is thereby the least possible"
+  pub least : (N : Over) → SameMatrix c.qubits (miter c.qubits c.gates d.gates) N → o.report.exponent ≤ N.power
   pub steps_are : o.report.steps ≡ length c.gates + length d.gates
   -- a number z over √2 to the power e that does it is the corner over √2 to the report's exponent
   pub one_factor : (z : Entry) (e : ℕ) → Turns c.qubits c.gates d.gates z e

@@ -25,6 +25,7 @@ use Rattle.gates.proofs.Naming.{is_refl, is_sound, is_apart}
 use Rattle.gates.proofs.LocalRules.{kind_alone, pair_alone}
 use Rattle.diagrams.specs.Diagram.{Ref, code, Store, reached, ref_of}
 use Rattle.diagrams.specs.Diagram.{levels, entries, same_entry, empty, reduce, diagram}
+use Rattle.diagrams.proofs.Everywhere.{everywhere_ext}
 use Rattle.diagrams.proofs.Again.{reduce_ext}
 use Rattle.diagrams.proofs.Unique.{Walked, walked}
 use Rattle.diagrams.proofs.Places.{levels_double}
@@ -40,7 +41,7 @@ use Rattle.meanings.proofs.Stages.{among_none, among_one}
 use Rattle.meanings.proofs.Cofactors.{Asks}
 use Rattle.meanings.proofs.Sound.{SoundAt, sound_valid}
 use Rattle.meanings.proofs.Sides.{level_on, side_level_is, Spreads, phases_on, product_place}
-use Rattle.meanings.proofs.Walks.{everywhere_ext, made_from, inside_from}
+use Rattle.meanings.proofs.Walks.{made_from, inside_from}
 
 -- ---- a numbered store refers to itself
 

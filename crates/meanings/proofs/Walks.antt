@@ -2,7 +2,7 @@
 -- is a node over its two next states; what it makes only grows a store, and is found there again.
 -- Assumes nothing.
 use mathlib.Core.Path.{◌≡◌, refl, sym, ◌∙◌, ap, ap₂}
-use mathlib.Core.Bool.{Bool, true, false, ◌&&◌, true≢false}
+use mathlib.Core.Bool.{Bool, true, false, ◌&&◌, true≢false, and_self}
 use mathlib.Core.List.{[], ◌∷◌}
 use Prim.Native.Nat.{ℕ, zero, suc, ◌+◌, ◌-◌, ◌<◌, ◌≤◌}
 use native.Mathlib.Omega.{arith}
@@ -13,6 +13,7 @@ use Rattle.algebra.specs.Matrix.{Bits, everywhere}
 use Rattle.algebra.specs.Width.{entry_in_width}
 use Rattle.diagrams.specs.Diagram.{Ref, value, node, branch, Store, rooted, same_entry, put_value, make_node, reduce, ref_of}
 use Rattle.diagrams.proofs.Tests.{entry_decides}
+use Rattle.diagrams.proofs.Everywhere.{everywhere_ext}
 use Rattle.diagrams.proofs.Again.{Extends, reduce_step, reduce_ext, reduce_extends, reduce_again, reduce_skip}
 use Rattle.transitions.specs.declared.Mode.{Mode}
 use Rattle.transitions.specs.declared.Mode.TheVariants.{Turning, Adding, Subtracting, Waiting, Swapping, Choosing}
@@ -25,18 +26,6 @@ use Rattle.transitions.specs.Valid.{ValidPlan, ValidState, Suits}
 use Rattle.meanings.proofs.Cofactors.{reached_nil}
 use Rattle.meanings.proofs.Sound.{SoundAt, sound_top, sound_valid, valid_sound, sound_later, top_most, next_sound}
 use Rattle.meanings.proofs.Meanings.{meaning_passed, meaning_next}
-
--- ---- tests of all bit lists
-
-pub everywhere_ext : (n : ℕ) (f g : Bits → Bool) → ((l : Bits) → length l ≡ n → f l ≡ g l) → everywhere n f ≡ everywhere n g
-everywhere_ext zero f g alike = alike [] refl
-everywhere_ext (suc n) f g alike = ap₂ ◌&&◌
-    (everywhere_ext n (λ l. f (false ∷ l)) (λ l. g (false ∷ l)) (λ l e. alike (false ∷ l) (ap suc e)))
-    (everywhere_ext n (λ l. f (true ∷ l)) (λ l. g (true ∷ l)) (λ l e. alike (true ∷ l) (ap suc e)))
-
-and_self : (b : Bool) → (b && b) ≡ b
-and_self true = refl
-and_self false = refl
 
 module _ (plan : Plan) (s : Store Entry) (valid : ValidPlan plan s) where
   valid_at_top : (σ : State) → ValidState plan s σ → SoundAt plan s (top plan s σ) σ

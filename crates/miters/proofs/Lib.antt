@@ -1,3 +1,5 @@
+pub mod LeastForms
+pub mod LoweredDiagrams
 pub mod Schedules
 pub mod Scalars
 pub mod Roots

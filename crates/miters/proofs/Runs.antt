@@ -1,7 +1,7 @@
 -- Any two runs that are not refused agree: one report and one used part, whatever the schedules, widths, stores and their
 -- earlier contents; and that part is the miter's reduced diagram.
 -- Assumes nothing.
-use mathlib.Core.Path.{◌≡◌, refl, sym, ◌∙◌, ap, ap₂, subst, ◌≡⟨◌⟩◌, ◌∎}
+use mathlib.Core.Path.{◌≡◌, refl, sym, ◌∙◌, ap, subst, ◌≡⟨◌⟩◌, ◌∎}
 use mathlib.Core.Bool.{Bool, true, false, cond, ◌&&◌, true≢false}
 use mathlib.Core.List.{List, [], ◌∷◌, ◌++◌, map, append-nil}
 use mathlib.Core.Logic.{◌↔◌}
@@ -14,56 +14,33 @@ use lib.ListN.{length, take, replicate, length-map}
 use borrow.Author.Tests.{eqb-true}
 use Rattle.algebra.specs.declared.Entry.{Entry}
 use Rattle.algebra.specs.Entry.{𝟘}
-use Rattle.algebra.specs.Matrix.{Bits, Matrix, everywhere}
+use Rattle.algebra.specs.Matrix.{Bits, Matrix}
 use Rattle.algebra.specs.Width.{entry_in_width}
 use Rattle.gates.specs.Gate.{Gate, AllFit}
 use Rattle.schedules.specs.Schedule.{count, only_steps, fits}
-use Rattle.diagrams.specs.Diagram.{node, code, Node, Diagram, ReducedOf, levels, place, rows, columns, entries, diagram}
-use Rattle.stores.specs.Columns.{Columns, column, held}
-use Rattle.diagrams.proofs.Tests.{both_true, true_both}
-use Rattle.diagrams.proofs.Places.{length_place, length_halves, place_halves}
+use Rattle.diagrams.specs.Diagram.{node, code, Node, Diagram, ReducedOf, levels, entries, diagram}
+use Rattle.stores.specs.Columns.{Columns, column, held, cleared}
+use Rattle.diagrams.proofs.Tests.{both_true}
 use Rattle.stores.proofs.Columns.{take_column}
-use Rattle.diagrams.proofs.Diagrams.{diagram_unique}
+use Rattle.diagrams.proofs.Diagrams.{diagram_unique, diagram_ext}
 use Rattle.miters.specs.declared.StepFault.TheVariants.{OutsideWidth, NoRoom}
 use Rattle.miters.specs.declared.Refusal.{Refusal}
 use Rattle.miters.specs.declared.Refusal.TheVariants.{Step as at_step}
-use Rattle.miters.specs.Miter.{Over, start, Step, stepped, run, steps, miter}
+use Rattle.miters.specs.Miter.{Over, start, Step, stepped, taken, run, steps, miter}
 use Rattle.miters.specs.Report.{finished, refused}
 use Rattle.miters.specs.Run.{Lent, in_width, has_room, Ended, done, stopped, follow, ended, Outcome, outcome, judged, used}
 use Rattle.miters.specs.Claims.{Pass, Follows, finishes, too_wide, too_full, Ends, full_at_once, follows, Answered, Agree}
+use Rattle.diagrams.proofs.Everywhere.{entries_everywhere}
+use Rattle.miters.proofs.LeastForms.{SameTable}
 use Rattle.miters.proofs.Schedules.{schedule_miter}
+use Rattle.miters.proofs.Verdicts.{verdict_ext}
 use Rattle.miters.proofs.Roots.{miter_root}
 
 -- ---- the test of 13 looks at every entry
 
-everywhere_all : (k : ℕ) (test : Bits → Bool) → everywhere k test ≡ true → (l : Bits) → length l ≡ k → test l ≡ true
-everywhere_all zero test e [] h = e
-everywhere_all zero test e (b ∷ l) h = absurd (omega arith)
-everywhere_all (suc k) test e [] h = absurd (omega arith)
-everywhere_all (suc k) test e (b ∷ l) h = everywhere_all k (λ m. test (b ∷ m)) (by_bit b) l (omega arith)
-  where
-    halves : (everywhere k (λ m. test (false ∷ m)) ≡ true) × (everywhere k (λ m. test (true ∷ m)) ≡ true)
-    halves = both_true (everywhere k (λ m. test (false ∷ m))) (everywhere k (λ m. test (true ∷ m))) e
-
-    by_bit : (b : Bool) → everywhere k (λ m. test (b ∷ m)) ≡ true
-    by_bit false = halves.0
-    by_bit true = halves.1
-
-all_everywhere : (k : ℕ) (test : Bits → Bool) → ((l : Bits) → length l ≡ k → test l ≡ true) → everywhere k test ≡ true
-all_everywhere zero test all = all [] refl
-all_everywhere (suc k) test all = true_both
-    (all_everywhere k (λ m. test (false ∷ m)) (λ l h. all (false ∷ l) (ap suc h)))
-    (all_everywhere k (λ m. test (true ∷ m)) (λ l h. all (true ∷ l) (ap suc h)))
-
 pub in_width_iff : (lent : Lent) (n : ℕ) (M : Matrix)
     → (in_width lent n M ≡ true) ↔ ((r c : Bits) → length r ≡ n → length c ≡ n → entry_in_width lent.width (M r c) ≡ true)
-in_width_iff lent n M = (
-  λ e r c p q. let halves = place_halves r c (p ∙ sym q) in
-      ap₂ (λ (x y : Bits). entry_in_width lent.width (M x y)) (sym halves.0) (sym halves.1)
-      ∙ everywhere_all (levels n) (λ l. entry_in_width lent.width (entries M l)) e (place r c) (length_place n r c p q),
-  λ all. all_everywhere (levels n) (λ l. entry_in_width lent.width (entries M l))
-      (λ l h. all (rows l) (columns l) (length_halves n l h).0 (length_halves n l h).1),
-)
+in_width_iff lent n M = entries_everywhere n (entry_in_width lent.width) M
 
 -- ---- how a run ends
 
@@ -76,14 +53,14 @@ module _ (lent : Lent) (n : ℕ) where
 
   module _ (before : ℕ) (M : Over) (s : Step) (ss : List Step) where
     abbrev next : Over
-    next = stepped n s M
+    next = taken n s M
 
-    pass_cons : (k : ℕ) → in_width lent n next.entries ≡ true → has_room lent n next.entries ≡ true
+    pass_cons : (k : ℕ) → in_width lent n (stepped n s M).entries ≡ true → has_room lent n next.entries ≡ true
         → Pass lent n next ss k → Pass lent n M (s ∷ ss) (suc k)
     pass_cons k wide room pass zero h = (wide, room)
     pass_cons k wide room pass (suc i) h = pass i (omega arith)
 
-    follows_cons : {e : Ended} → in_width lent n next.entries ≡ true → has_room lent n next.entries ≡ true
+    follows_cons : {e : Ended} → in_width lent n (stepped n s M).entries ≡ true → has_room lent n next.entries ≡ true
         → Follows lent n (suc before) next ss e → Follows lent n before M (s ∷ ss) e
     follows_cons wide room (finishes pass) =
         subst (λ (k : ℕ). Follows lent n before M (s ∷ ss) (done k (run n ss next))) (omega arith) (finishes (pass_cons (length ss) wide room pass))
@@ -94,20 +71,19 @@ module _ (lent : Lent) (n : ℕ) where
         subst (λ (i : ℕ). Follows lent n before M (s ∷ ss) (stopped (at_step NoRoom i))) (omega arith)
         (too_full (suc k) (omega arith) (pass_cons k wide room pass) fit out)
 
-    pub follow_too_wide : in_width lent n next.entries ≡ false → follow lent n before (s ∷ ss) M ≡ stopped (at_step OutsideWidth before)
+    pub follow_too_wide : in_width lent n (stepped n s M).entries ≡ false → follow lent n before (s ∷ ss) M ≡ stopped (at_step OutsideWidth before)
     follow_too_wide wide = rw wide
 
-    pub follow_too_full : in_width lent n next.entries ≡ true → has_room lent n next.entries ≡ false
+    pub follow_too_full : in_width lent n (stepped n s M).entries ≡ true → has_room lent n next.entries ≡ false
         → follow lent n before (s ∷ ss) M ≡ stopped (at_step NoRoom before)
     follow_too_full wide room = rw (wide, room)
 
-    pub follow_on : in_width lent n next.entries ≡ true → has_room lent n next.entries ≡ true
+    pub follow_on : in_width lent n (stepped n s M).entries ≡ true → has_room lent n next.entries ≡ true
         → follow lent n before (s ∷ ss) M ≡ follow lent n (suc before) ss next
     follow_on wide room = rw (wide, room)
 
-    follows_step : (a b : Bool) → in_width lent n next.entries ≡ a → has_room lent n next.entries ≡ b
-        → Follows lent n (suc before) next ss (follow lent n (suc before) ss next)
-        → Follows lent n before M (s ∷ ss) (follow lent n before (s ∷ ss) M)
+    follows_step : (a b : Bool) → in_width lent n (stepped n s M).entries ≡ a → has_room lent n next.entries ≡ b
+        → Follows lent n (suc before) next ss (follow lent n (suc before) ss next) → Follows lent n before M (s ∷ ss) (follow lent n before (s ∷ ss) M)
     follows_step false b wide room onward = subst (Follows lent n before M (s ∷ ss))
         (ap (λ (i : ℕ). stopped (at_step OutsideWidth i)) (add-zero before) ∙ sym (follow_too_wide wide))
         (too_wide 0 (omega arith) (pass_none M (s ∷ ss)) wide)
@@ -119,8 +95,8 @@ module _ (lent : Lent) (n : ℕ) where
   follow_follows : (before : ℕ) (ss : List Step) (M : Over) → Follows lent n before M ss (follow lent n before ss M)
   follow_follows before [] M = subst (λ (k : ℕ). Follows lent n before M [] (done k M)) (add-zero before) (finishes (pass_none M []))
   follow_follows before (s ∷ ss) M =
-      let M' = stepped n s M in
-      follows_step before M s ss (in_width lent n M'.entries) (has_room lent n M'.entries) refl refl (follow_follows (suc before) ss M')
+      let M' = taken n s M in
+      follows_step before M s ss (in_width lent n (stepped n s M).entries) (has_room lent n M'.entries) refl refl (follow_follows (suc before) ss M')
 
   pub ended_ends : (ss : List Step) → Ends lent n ss (ended lent n ss)
   unfolding ended
@@ -133,18 +109,18 @@ module _ (lent : Lent) (n : ℕ) where
   -- it ends so in no other way
   module _ (before : ℕ) (M : Over) (s : Step) (ss : List Step) where
     abbrev RestOnly : Type 0
-    RestOnly = (e : Ended) → Follows lent n (suc before) (stepped n s M) ss e → follow lent n (suc before) ss (stepped n s M) ≡ e
+    RestOnly = (e : Ended) → Follows lent n (suc before) (taken n s M) ss e → follow lent n (suc before) ss (taken n s M) ≡ e
 
-    pass_rest : (k : ℕ) → Pass lent n M (s ∷ ss) (suc k) → Pass lent n (stepped n s M) ss k
+    pass_rest : (k : ℕ) → Pass lent n M (s ∷ ss) (suc k) → Pass lent n (taken n s M) ss k
     pass_rest k pass i h = pass (suc i) (omega arith)
 
-    passed_on : (k : ℕ) → Pass lent n M (s ∷ ss) (suc k) → {e : Ended} → Follows lent n (suc before) (stepped n s M) ss e → RestOnly
+    passed_on : (k : ℕ) → Pass lent n M (s ∷ ss) (suc k) → {e : Ended} → Follows lent n (suc before) (taken n s M) ss e → RestOnly
         → follow lent n before (s ∷ ss) M ≡ e
     passed_on k pass rest only = let first = pass 0 (omega arith) in follow_on before M s ss first.0 first.1 ∙ only _ rest
 
     follows_step_only : RestOnly → {e : Ended} → Follows lent n before M (s ∷ ss) e → follow lent n before (s ∷ ss) M ≡ e
     follows_step_only only (finishes pass) =
-        passed_on (length ss) pass (finishes (pass_rest (length ss) pass)) only ∙ ap (λ (k : ℕ). done k (run n ss (stepped n s M))) (omega arith)
+        passed_on (length ss) pass (finishes (pass_rest (length ss) pass)) only ∙ ap (λ (k : ℕ). done k (run n ss (taken n s M))) (omega arith)
     follows_step_only only (too_wide zero h pass out) =
         follow_too_wide before M s ss out ∙ ap (λ (k : ℕ). stopped (at_step OutsideWidth k)) (sym (add-zero before))
     follows_step_only only (too_wide (suc k) h pass out) =
@@ -158,7 +134,7 @@ module _ (lent : Lent) (n : ℕ) where
   follows_only before [] M (finishes pass) = ap (λ (k : ℕ). done k M) (sym (add-zero before))
   follows_only before [] M (too_wide k h pass out) = absurd (omega arith)
   follows_only before [] M (too_full k h pass fit out) = absurd (omega arith)
-  follows_only before (s ∷ ss) M on = follows_step_only before M s ss (λ e rest. follows_only (suc before) ss (stepped n s M) rest) on
+  follows_only before (s ∷ ss) M on = follows_step_only before M s ss (λ e rest. follows_only (suc before) ss (taken n s M) rest) on
 
   pub ends_only : (ss : List Step) {e : Ended} → Ends lent n ss e → ended lent n ss ≡ e
   unfolding ended
@@ -225,6 +201,24 @@ answered_unstopped : (lent : Lent) (n : ℕ) (e : Ended) → Answered (outcome l
 unfolding refused
 answered_unstopped lent n e answered r is = answered r (ap (λ (x : Ended). (outcome lent n x).report.verdict) is)
 
+-- a finished run's outcome looks at the entries on n qubits and at the exponent
+outcome_same : (lent : Lent) (n k : ℕ) (M N : Over) → SameTable n M N → outcome lent n (done k M) ≡ outcome lent n (done k N)
+unfolding finished
+outcome_same lent n k M N same = λ i. record {
+  report = record {
+    verdict = verdict_ext n same.entries i;
+    exponent = same.power i;
+    steps = k;
+    nodes = length (drawn i).store.nodes;
+    values = length (drawn i).store.values;
+  };
+  first = held lent.nodes lent.values (drawn i).store;
+  second = cleared lent.nodes lent.values;
+}
+  where
+    drawn : diagram n M.entries ≡ diagram n N.entries
+    drawn = diagram_ext n M.entries N.entries same.entries.at
+
 -- its outcome is the miter's
 pub judged_miter : (lent : Lent) (n : ℕ) (s : List ℕ) (us vs : List Gate) (first second : Columns) → fits (length us) (length vs) s ≡ true
     → Answered (judged lent n s us vs first second)
@@ -234,7 +228,9 @@ judged_miter lent n s us vs first second fit answered =
     let ss = steps s us vs in
     outcome lent n (ended lent n ss)
     ≡⟨ ap (outcome lent n) (unstopped_done lent n ss (ended_ends lent n ss) (answered_unstopped lent n (ended lent n ss) answered)) ⟩
-    outcome lent n (done (length ss) (run n ss start)) ≡⟨ ap (outcome lent n) (ap₂ done (steps_length s us vs fit) (schedule_miter n s us vs fit)) ⟩
+    outcome lent n (done (length ss) (run n ss start)) ≡⟨ ap (λ (k : ℕ). outcome lent n (done k (run n ss start))) (steps_length s us vs fit) ⟩
+    outcome lent n (done (length us + length vs) (run n ss start))
+    ≡⟨ outcome_same lent n (length us + length vs) (run n ss start) (miter n us vs) (schedule_miter n s us vs fit) ⟩
     outcome lent n (done (length us + length vs) (miter n us vs)) ∎
 
 -- ---- two runs

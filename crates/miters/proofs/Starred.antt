@@ -9,6 +9,7 @@ use Rattle.algebra.specs.declared.Entry.{Entry}
 use Rattle.algebra.specs.Entry.{entry, 𝟘, 𝟙, neg, ◌⊕◌, ◌⊗◌, times_w8, turned}
 use Rattle.algebra.specs.Matrix.{total, product, identity}
 use Rattle.algebra.specs.Width.{number_in_width}
+use Rattle.algebra.specs.Division.{even, half, over_√2}
 use Rattle.gates.specs.Gate.{Kind, X, Y, Z, H, S, T, CNOT, CZ, Gate, on, pair, matrix}
 use Rattle.diagrams.specs.Diagram.{reduce}
 use Rattle.stores.specs.Columns.{Columns, held, cleared}
@@ -18,7 +19,7 @@ use Rattle.miters.specs.declared.Refusal.TheVariants.{Step}
 use Rattle.miters.specs.declared.Verdict.{Verdict}
 use Rattle.miters.specs.declared.Verdict.TheVariants.{Equal, Different, Refused}
 use Rattle.miters.specs.declared.Report.{Report}
-use Rattle.miters.specs.Miter.{start, stepped}
+use Rattle.miters.specs.Miter.{start, stepped, lower}
 use Rattle.miters.specs.Report.{verdict, finished, refused}
 use Rattle.miters.specs.Run.{Lent, Outcome, ended, judged, used}
 
@@ -87,7 +88,7 @@ circuits =
       }),
     )
     -- 2
-    ∷ (report_of (alone 32 (H ∷ H ∷ []) []), finishes (Equal (plain (pos 2))) 2 2 3 2)
+    ∷ (report_of (alone 32 (H ∷ H ∷ []) []), finishes (Equal (plain (pos 1))) 0 2 3 2)
     -- 3
     ∷ (report_of (alone 32 (X ∷ []) []), finishes (differs 0 1 (plain (pos 1)) (plain (pos 0))) 0 1 3 2)
     -- 4
@@ -98,18 +99,18 @@ circuits =
     ∷ (report_of (alone 32 (Y ∷ []) (Z ∷ X ∷ [])), finishes (Equal (entry (pos 0) (pos 1) (pos 0) (pos 0))) 0 3 3 2)
     ∷ (report_of (alone 32 (Z ∷ X ∷ []) (Y ∷ [])), finishes (Equal (entry (pos 0) (negsuc 0) (pos 0) (pos 0))) 0 3 3 2)
     -- 7
-    ∷ (report_of (two (pair CNOT 0 1 ∷ []) (on H 1 ∷ pair CZ 0 1 ∷ on H 1 ∷ [])), finishes (Equal (plain (pos 2))) 2 4 6 2)
+    ∷ (report_of (two (pair CNOT 0 1 ∷ []) (on H 1 ∷ pair CZ 0 1 ∷ on H 1 ∷ [])), finishes (Equal (plain (pos 1))) 0 4 6 2)
     -- 8
     ∷ (report_of (two (pair CNOT 0 1 ∷ []) (pair CNOT 1 0 ∷ [])), finishes (differs 1 1 (plain (pos 0)) (plain (pos 1))) 0 2 9 2)
     -- 9
     ∷ (report_of (alone 2 (H ∷ H ∷ []) []), stops OutsideWidth 1)
-    ∷ (report_of (alone 3 (H ∷ H ∷ []) []), finishes (Equal (plain (pos 2))) 2 2 3 2)
+    ∷ (report_of (alone 3 (H ∷ H ∷ []) []), finishes (Equal (plain (pos 1))) 0 2 3 2)
     -- 10
-    ∷ (report_of (alone 2 (X ∷ Z ∷ X ∷ Z ∷ H ∷ H ∷ []) []), finishes (Equal (plain (negsuc 1))) 2 6 3 2)
-    ∷ (report_of (alone 2 (X ∷ Z ∷ X ∷ Z ∷ H ∷ H ∷ Z ∷ []) []), stops OutsideWidth 6)
+    ∷ (report_of (alone 2 (X ∷ Z ∷ X ∷ Z ∷ H ∷ H ∷ []) []), finishes (Equal (plain (negsuc 0))) 0 6 3 2)
+    ∷ (report_of (alone 2 (X ∷ Z ∷ X ∷ Z ∷ H ∷ H ∷ Z ∷ []) []), finishes (differs 1 1 (plain (pos 1)) (plain (negsuc 0))) 0 7 3 3)
     ∷ []
 
 pub starred : map (λ row. answer row.0) circuits ≡ map (λ row. row.1) circuits
-unfolding judged ended finished refused verdict used held cleared reduce start stepped product total identity matrix number_in_width
+unfolding lower even half over_√2 judged ended finished refused verdict used held cleared reduce start stepped product total identity matrix number_in_width
     𝟘 𝟙 neg ◌⊕◌ ◌⊗◌ times_w8 turned
 starred = refl

@@ -1,7 +1,7 @@
 -- The verdict is equal exactly if no place forbids it, so exactly if the miter is scalar and the lists are equal; different
 -- shows the lowest place that forbids it.
 -- Assumes nothing.
-use mathlib.Core.Path.{◌≡◌, refl, sym, ◌∙◌, ap, subst}
+use mathlib.Core.Path.{◌≡◌, refl, sym, ◌∙◌, ap, ap₂, subst}
 use mathlib.Core.Bool.{Bool, true, false, not, cond, true≢false}
 use mathlib.Core.List.{List, [], ◌∷◌}
 use mathlib.Core.Option.{Option, none, some}
@@ -15,18 +15,18 @@ use Rattle.algebra.specs.declared.Entry.{Entry}
 use Rattle.algebra.specs.Entry.{𝟘}
 use Rattle.algebra.specs.Matrix.{Bits, Matrix, same}
 use Rattle.algebra.proofs.Sums.{same_refl, same_sound}
+use Rattle.algebra.proofs.Matrices.{Alike}
 use Rattle.gates.specs.Gate.{Gate, AllFit}
-use Rattle.diagrams.specs.Diagram.{levels, place, rows, columns, same_entry}
+use Rattle.diagrams.specs.Diagram.{levels, place, rows, columns, same_entry, entries}
 use Rattle.diagrams.proofs.Tests.{entry_decides}
 use Rattle.diagrams.proofs.Places.{length_place, length_halves, place_halves}
 use Rattle.miters.specs.declared.Difference.{Difference}
 use Rattle.miters.specs.declared.Verdict.{Verdict}
 use Rattle.miters.specs.declared.Verdict.TheVariants.{Equal as equal_with, Different}
-use Rattle.miters.specs.Miter.{corner, miter, Turns, Equal, Scalar}
+use Rattle.miters.specs.Miter.{corner, miter, Equal, Scalar}
 use Rattle.miters.specs.Claims.{Least, Says, says_equal, says_different}
 use Rattle.miters.proofs.Scalars.{scalar_turns, equal_iff_scalar}
-use Rattle.miters.proofs.Schedules.{miter_power}
-use Rattle.miters.specs.Report.{number, forbids, lower, lowest, difference, verdict_by, verdict}
+use Rattle.miters.specs.Report.{number, forbids, first_found, lowest, difference, verdict_by, verdict}
 
 -- ---- the lowest bits that pass a test
 
@@ -51,7 +51,7 @@ searched_nil test false e = nowhere only
     only (b ∷ l) h = absurd (omega arith)
 
 searched_cons : (k : ℕ) (test : Bits → Bool) (x y : Option Bits) → Searched k (λ l. test (false ∷ l)) x → Searched k (λ l. test (true ∷ l)) y
-    → Searched (suc k) test (lower x y)
+    → Searched (suc k) test (first_found x y)
 searched_cons k test x y (nowhere p) (nowhere q) = nowhere both
   where
     both : (l : Bits) → length l ≡ suc k → test l ≡ false
@@ -112,9 +112,6 @@ module _ (n : ℕ) (M : Matrix) where
       (scalar_entry scalar (rows l) (columns l) long.0 long.1 (same (rows l) (columns l)) refl)
       ∙ ap not (entry_decides.reflexive (cond (same (rows l) (columns l)) (corner n M) 𝟘))
 
-  pub clear_iff_scalar : Clear ↔ Scalar n M
-  clear_iff_scalar = (clear_scalar, scalar_clear)
-
 -- ---- the verdict on two lists
 
 module _ (n : ℕ) (us vs : List Gate) (fit : AllFit n vs) where
@@ -124,8 +121,7 @@ module _ (n : ℕ) (us vs : List Gate) (fit : AllFit n vs) where
   says : (x : Option Bits) → Searched (levels n) (forbids n W) x → Says n us vs (verdict_by n W x)
   says x (nowhere clear) =
       let scalar = clear_scalar n W clear in
-      says_equal ((equal_iff_scalar n us vs fit).1 scalar)
-      (subst (Turns n us vs (corner n W)) (sym (miter_power n us vs)) (scalar_turns n us vs fit scalar))
+      says_equal ((equal_iff_scalar n us vs fit).1 scalar) (scalar_turns n us vs fit scalar)
   says x (least {l = l} low) = says_different unequal l low
     where
       unequal : Equal n us vs → ⊥
@@ -145,3 +141,33 @@ module _ (n : ℕ) (us vs : List Gate) (fit : AllFit n vs) where
       by_says : (v : Verdict) → Says n us vs v → ((z : Entry) × (v ≡ equal_with z)) ↔ Equal n us vs
       by_says v (says_equal equal turns) = (λ given. equal, λ given. (corner n W, refl))
       by_says v (says_different unequal l low) = (λ given. absurd (clash (difference n W l) given.0 given.1), λ equal. absurd (unequal equal))
+
+-- ---- the verdict looks at the entries on n qubits only
+
+pub lowest_ext : (k : ℕ) (p q : Bits → Bool) → ((l : Bits) → length l ≡ k → p l ≡ q l) → lowest k p ≡ lowest k q
+lowest_ext zero p q h = ap (λ (b : Bool). cond b (some []) none) (h [] refl)
+lowest_ext (suc k) p q h = ap₂ first_found
+    (lowest_ext k (λ l. p (false ∷ l)) (λ l. q (false ∷ l)) (λ l e. h (false ∷ l) (ap suc e)))
+    (lowest_ext k (λ l. p (true ∷ l)) (λ l. q (true ∷ l)) (λ l e. h (true ∷ l) (ap suc e)))
+
+module _ (n : ℕ) {M N : Matrix} (alike : Alike n M N) where
+  corner_ext : corner n M ≡ corner n N
+  corner_ext = alike.at (replicate n false) (replicate n false) (length-replicate n false) (length-replicate n false)
+
+  entry_ext : (l : Bits) → length l ≡ levels n → entries M l ≡ entries N l
+  entry_ext l e = let long = length_halves n l e in alike.at (rows l) (columns l) long.0 long.1
+
+  forbids_ext : (l : Bits) → length l ≡ levels n → forbids n M l ≡ forbids n N l
+  forbids_ext l e = ap₂ (λ (x y : Entry). not (same_entry x (cond (same (rows l) (columns l)) y 𝟘))) (entry_ext l e) corner_ext
+
+  by_ext : (x : Option Bits) → Searched (levels n) (forbids n M) x → verdict_by n M x ≡ verdict_by n N x
+  by_ext x (nowhere h) = ap equal_with corner_ext
+  by_ext x (least {l = l} low) = ap Different (ap₂ (λ (e c : Entry). differing e c) (entry_ext l low.long) corner_ext)
+    where
+      differing : Entry → Entry → Difference
+      differing e c = record { row = number (rows l); column = number (columns l); entry = e; corner = c }
+
+  pub verdict_ext : verdict n M ≡ verdict n N
+  unfolding verdict
+  verdict_ext = by_ext (lowest (levels n) (forbids n M)) (lowest_searched (levels n) (forbids n M))
+      ∙ ap (verdict_by n N) (lowest_ext (levels n) (forbids n M) (forbids n N) forbids_ext)

@@ -1,10 +1,12 @@
 -- The miter of two gate lists: the list's matrix, the steps along a schedule, what they come to, and what equal means.
--- Definitions only; their laws are in proofs/Schedules.antt and proofs/Scalars.antt.
-use Rattle.std.specs.Prelude.{◌≡◌, false, List, [], ◌∷◌, ℕ, zero, suc, ◌+◌, length, replicate}
+-- Definitions only; their laws are in proofs/LeastForms.antt, proofs/Schedules.antt and proofs/Scalars.antt.
+use Rattle.std.specs.Prelude.{◌≡◌, Bool, false, cond, List, [], ◌∷◌, ℕ, zero, suc, ◌+◌, length, replicate}
 use Rattle.algebra.specs.declared.Entry.{Entry}
 use Rattle.algebra.specs.Entry.{𝟘, ◌⊗◌, √2^}
-use Rattle.algebra.specs.Matrix.{Bits, Matrix, product, same, identity}
+use Rattle.algebra.specs.Matrix.{Bits, Matrix, everywhere, product, same, identity}
+use Rattle.algebra.specs.Division.{divisible, over_√2}
 use Rattle.gates.specs.Gate.{Gate, matrix, inverse, halves}
+use Rattle.diagrams.specs.Diagram.{levels, entries}
 
 -- ---- a list's matrix
 
@@ -33,15 +35,43 @@ start = record { entries = identity; power = 0 }
 pub data Step : Type 0 where
   right left : Gate → Step
 
--- "In this base k is the number of H gates applied and is never lowered."
+-- the product of a step, before it is divided: "H .. adds 1 to k"
 unfoldable pub stepped : ℕ → Step → Over → Over
 stepped n (right g) M = record { entries = product n M.entries (matrix g); power = M.power + halves g }
 stepped n (left g) M = record { entries = product n (matrix g) M.entries; power = M.power + halves g }
 
+-- ---- the least exponent
+
+-- "every entry has both a + c and b + d even"
+abbrev pub all_divisible : ℕ → Matrix → Bool
+all_divisible n M = everywhere (levels n) (λ l. divisible (entries M l))
+
+-- "divide all entries by √2"
+abbrev pub divided : Matrix → Matrix
+divided M r c = over_√2 (M r c)
+
+-- entries over an exponent
+abbrev pub table : ℕ → Matrix → Over
+table k M = record { entries = M; power = k }
+
+-- "while the exponent is above 0 and every entry has both a + c and b + d even, divide all entries by √2 and take 1 from the
+-- exponent"
+unfoldable pub lower : ℕ → ℕ → Matrix → Over
+lower n zero M = table 0 M
+lower n (suc k) M = cond (all_divisible n M) (lower n k (divided M)) (table (suc k) M)
+
+-- entries over their exponent, divided so
+abbrev pub lowered : ℕ → Over → Over
+lowered n M = lower n M.power M.entries
+
+-- "After each step": the product, divided
+abbrev pub taken : ℕ → Step → Over → Over
+taken n s M = lowered n (stepped n s M)
+
 -- what the steps come to
 abbrev pub run : ℕ → List Step → Over → Over
 run n [] M = M
-run n (s ∷ ss) M = run n ss (stepped n s M)
+run n (s ∷ ss) M = run n ss (taken n s M)
 
 -- "A step either puts the next gate of U on the left or the inverse of the next gate of V on the right."
 -- The steps of a schedule, which has 0 for U and 1 for V; they end where it takes a gate that is not there.

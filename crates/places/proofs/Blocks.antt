@@ -12,7 +12,8 @@ use borrow.Author.Tests.{eqb-true, eqb-false, eq-eqb, ne_eqb}
 use Rattle.algebra.specs.Matrix.{Bits, same}
 use Rattle.diagrams.specs.Diagram.{levels, rows, columns}
 use Rattle.diagrams.proofs.Places.{length_halves}
-use Rattle.miters.specs.Report.{lower, lowest}
+use Rattle.miters.specs.Report.{first_found, lowest}
+use Rattle.miters.proofs.Verdicts.{lowest_ext}
 use Rattle.std.specs.Prelude.{Option, Some, None}
 use Rattle.places.specs.declared.Place.{Place}
 use Rattle.places.specs.declared.Task.{Task}
@@ -20,17 +21,9 @@ use Rattle.places.specs.Search.{onward, is_zero, allows, forbids_from, found_at,
 
 -- ---- the lowest bits that pass a test
 
--- only the lists of the right length count
-pub lowest_ext : (k : ℕ) (p q : Bits → Bool) → ((l : Bits) → length l ≡ k → p l ≡ q l) → lowest k p ≡ lowest k q
-lowest_ext zero p q alike = ap (λ (b : Bool). cond b (some []) none) (alike [] refl)
-lowest_ext (suc k) p q alike =
-    ap₂ lower
-    (lowest_ext k (λ l. p (false ∷ l)) (λ l. q (false ∷ l)) (λ l e. alike (false ∷ l) (ap suc e)))
-    (lowest_ext k (λ l. p (true ∷ l)) (λ l. q (true ∷ l)) (λ l e. alike (true ∷ l) (ap suc e)))
-
 lowest_never : (k : ℕ) → lowest k (λ l. false) ≡ none
 lowest_never zero = refl
-lowest_never (suc k) = ap₂ lower (lowest_never k) (lowest_never k)
+lowest_never (suc k) = ap₂ first_found (lowest_never k) (lowest_never k)
 
 -- ---- numbers bit by bit
 
@@ -88,7 +81,7 @@ module _ (at : ℕ → ℕ → ℕ → Option Place) (f : Bits → ℕ) (x y : �
       → found_from at f x y (some (b ∷ l)) ≡ found_from turned (λ m. f (b ∷ m)) y (cond b (2 * x + 1) (2 * x)) (some l)
   found_cons b l = let h = halves_cons b l in ap₂ (λ (r c : Bits). at (onward x r) (onward y c) (f (b ∷ l))) h.0 h.1
 
-  found_lower : Ends at → (p q : Lowest Bits) → found_from at f x y (lower p q)
+  found_lower : Ends at → (p q : Lowest Bits) → found_from at f x y (first_found p q)
       ≡ first_of (found_from turned (λ l. f (false ∷ l)) y (2 * x) p) (found_from turned (λ l. f (true ∷ l)) y (2 * x + 1) q)
   found_lower ends none none = refl
   found_lower ends none (some l) = found_cons true l
@@ -107,7 +100,7 @@ module _ (at : ℕ → ℕ → ℕ → Option Place) (f : Bits → ℕ) (x y : �
         ≡ first_of (sought turned task k (λ l. f (false ∷ l)) y (2 * x)) (sought turned task k (λ l. f (true ∷ l)) y (2 * x + 1))
     unfolding sought
     sought_cons ends k =
-        ap₂ (λ (p q : Bits → Bool). found_from at f x y (lower (lowest k p) (lowest k q))) (down false) (down true)
+        ap₂ (λ (p q : Bits → Bool). found_from at f x y (first_found (lowest k p) (lowest k q))) (down false) (down true)
         ∙ found_lower ends (lowest k (below false)) (lowest k (below true))
       where
         below : Bool → Bits → Bool

@@ -23,7 +23,7 @@ use Rattle.steps.specs.Stepping.{lent_with}
 use Rattle.steps.specs.Stepping as stepping
 use Rattle.plans.specs.declared.Action.{Action}
 use Rattle.plans.specs.declared.Step.{Step as Given}
-use Rattle.stores.specs.declared.Used.{Used}
+use Rattle.steps.specs.declared.Taken.{Taken}
 use Rattle.plans.specs.declared.Scratch.{Scratch as LentScratch}
 use Rattle.plans.specs.Layout.{SameScratch}
 use Rattle.choices.specs.declared.Lists.{Lists as Readers}
@@ -61,19 +61,19 @@ module _ (course : Course) (sizes : Sizes) (first₀ second₀ : LentStore) (T�
       omega (arith, long, s.task.within_u.few_gates, s.task.within_v.few_gates)
 
   -- the invariant: the stores and the scratch are the same, and for every run that it may be, i steps of it are taken
-  pub record Turning (readers : Readers) (exponent i : ℕ) (used : Used) (first second : LentStore) (T : LentScratch) : Type 0 where
+  pub record Turning (readers : Readers) (taken : Taken) (i : ℕ) (first second : LentStore) (T : LentScratch) : Type 0 where
     pub same_first : SameColumns first₀ first
     pub same_second : SameColumns second₀ second
     pub same_scratch : SameScratch T₀ T
     pub runs : (s : Starts)
-        → Running (lent_of s) n schedule (whole_of s) readers exponent i used (current (length schedule - i) (columns_of first) (columns_of second))
+        → Running (lent_of s) n schedule (whole_of s) readers taken i (current (length schedule - i) (columns_of first) (columns_of second))
 
   -- at the first gates, in the identity
-  abbrev at_start : Used
-  at_start = record { nodes = 3 * n; values = 2 }
+  abbrev at_start : Taken
+  at_start = record { used = record { nodes = 3 * n; values = 2 }; exponent = 0 }
 
   started : (s : Starts)
-      → Running (lent_of s) n schedule (whole_of s) course.lists 0 0 at_start (current (length schedule - 0) (columns_of first₀) (columns_of second₀))
+      → Running (lent_of s) n schedule (whole_of s) course.lists at_start 0 (current (length schedule - 0) (columns_of first₀) (columns_of second₀))
   unfolding start
   started s =
       let task = s.task in
@@ -103,13 +103,13 @@ module _ (course : Course) (sizes : Sizes) (first₀ second₀ : LentStore) (T�
         };
       }
 
-  pub turning_starts : Turning course.lists 0 0 at_start first₀ second₀ T₀
+  pub turning_starts : Turning course.lists at_start 0 first₀ second₀ T₀
   turning_starts = record { same_first = same_none first₀; same_second = same_none second₀; same_scratch = scratch_none T₀; runs = started }
 
-  module _ {readers : Readers} {exponent i : ℕ} {used : Used} {first second : LentStore} {T : LentScratch}
-      (t : Turning readers exponent i used first second T) where
+  module _ {readers : Readers} {taken : Taken} {i : ℕ} {first second : LentStore} {T : LentScratch}
+      (t : Turning readers taken i first second T) where
     pub turning_ends : length schedule ≤ i → (s : Starts)
-        → Ran (lent_of s) n (columns_of first) (whole_of s) (Ok (record { steps = length schedule; exponent = exponent; used = used }))
+        → Ran (lent_of s) n (columns_of first) (whole_of s) (Ok (record { steps = length schedule; exponent = taken.exponent; used = taken.used }))
     turning_ends end s = run_ends (columns_of first) (columns_of second) (t.runs s) end
 
     module _ (more : i < length schedule) {readers' : Readers} {action : Action}
@@ -123,7 +123,7 @@ module _ (course : Course) (sizes : Sizes) (first₀ second₀ : LentStore) (T�
 
       -- the step
       abbrev step : Given
-      step = record { action = action; n = n; sizes = sizes; used = used }
+      step = record { action = action; n = n; sizes = sizes; used = taken.used }
 
       abbrev pub step_task : (s : Starts) → stepping.Task step from into T
       step_task s = turn_task (t.runs s) more s.task.within_u.few_qubits chosen s.task.width
@@ -131,12 +131,14 @@ module _ (course : Course) (sizes : Sizes) (first₀ second₀ : LentStore) (T�
           (long_same {s = first₀} {s' = first} s.task.first_long t.same_first))
           (scratch_same s.task.scratch t.same_scratch)
 
-      module _ {answer : Result Used StepFault} (first' second' : LentStore) (left : stepping.Left step from into T
+      -- its product is over the exponent with one more where the gate mixes
+      module _ {h : ℕ} (h_is : h ≡ as_number (does_mix action.rule.act)) {answer : Result Taken StepFault} (first' second' : LentStore)
+          (left : stepping.Left step from into T (taken.exponent + h)
           (current (length schedule - i) (columns_of second') (columns_of first')) answer) where
         pub turning_stops : {fault : StepFault} → answer ≡ Err fault
             → (s : Starts) → Ran (lent_of s) n (columns_of first') (whole_of s) (Err (at_step fault i))
         turning_stops stops s =
-            turn_stops (t.runs s) more s.task.within_u.few_qubits chosen (left (step_task s)) (columns_of first') stops
+            turn_stops (t.runs s) more s.task.within_u.few_qubits chosen h_is (left (step_task s)) (columns_of first') stops
 
         next_current : current (length schedule - i) (columns_of second') (columns_of first')
             ≡ current (length schedule - (i + 1)) (columns_of first') (columns_of second')
@@ -145,16 +147,14 @@ module _ (course : Course) (sizes : Sizes) (first₀ second₀ : LentStore) (T�
             sym (current_next (length schedule - (i + 1)) (columns_of first') (columns_of second')
             ∙ ap (λ (k : ℕ). current k (columns_of second') (columns_of first')) one_less)
 
-        pub turning_on : {used' : Used} {T' : LentScratch} (h : ℕ) → answer ≡ Ok used' → h ≡ as_number (does_mix action.rule.act)
-            → SameColumns first first' → SameColumns second second' → SameScratch T T'
-            → Turning readers' (exponent + h) (i + 1) used' first' second' T'
-        turning_on {used'} h going h_is same_first same_second same_scratch = record {
+        pub turning_on : {taken' : Taken} {T' : LentScratch} → answer ≡ Ok taken'
+            → SameColumns first first' → SameColumns second second' → SameScratch T T' → Turning readers' taken' (i + 1) first' second' T'
+        turning_on {taken'} going same_first same_second same_scratch = record {
           same_first = same_then t.same_first same_first;
           same_second = same_then t.same_second same_second;
           same_scratch = scratch_then t.same_scratch same_scratch;
-          runs = λ s. subst (λ (C : Columns). Running (lent_of s) n schedule (whole_of s) readers' (exponent + h) (i + 1) used' C)
-              next_current
-              (turn_runs (t.runs s) more s.task.within_u.few_qubits chosen (left (step_task s)) h s.task.within_u.some_qubit going h_is);
+          runs = λ s. subst (λ (C : Columns). Running (lent_of s) n schedule (whole_of s) readers' taken' (i + 1) C) next_current
+              (turn_runs (t.runs s) more s.task.within_u.few_qubits chosen h_is (left (step_task s)) s.task.within_u.some_qubit going);
         }
 
 -- ---- the whole run

@@ -11,11 +11,13 @@ use lib.ListN.{length, length-append}
 use Rattle.gates.specs.Gate.{Gate, AllFit, inverse}
 use Rattle.circuits.proofs.Within.{append_fit}
 use Rattle.schedules.specs.Schedule.{count, only_steps, fits}
-use Rattle.diagrams.specs.Diagram.{node, diagram}
+use Rattle.diagrams.specs.Diagram.{diagram}
 use Rattle.diagrams.proofs.Tests.{both_true, true_both}
-use Rattle.miters.specs.Miter.{Over, start, Step, left, right, stepped, run, steps}
+use Rattle.miters.specs.Miter.{Over, start, Step, left, right, taken, run, steps, miter}
+use Rattle.miters.proofs.LeastForms.{SameTable}
+use Rattle.diagrams.proofs.Diagrams.{diagram_ext}
 use Rattle.miters.proofs.Schedules.{schedule_miter}
-use Rattle.miters.proofs.Roots.{miter_root}
+use Rattle.miters.proofs.Roots.{LastRoot, miter_root}
 use Rattle.choices.specs.Choosing.{Takes, from_U, from_V}
 
 -- ---- schedules that fit
@@ -126,7 +128,7 @@ steps_after (b ∷ s) t us vs us₁ vs₁ f =
 
 run_after : (n : ℕ) (ss more : List Step) (M : Over) → run n (ss ++ more) M ≡ run n more (run n ss M)
 run_after n [] more M = refl
-run_after n (s ∷ ss) more M = run_after n ss more (stepped n s M)
+run_after n (s ∷ ss) more M = run_after n ss more (taken n s M)
 
 -- ---- what a run has come to
 
@@ -172,19 +174,19 @@ module _ (n : ℕ) (M : Over) (reached : Reached n M) where
   }
 
   pub reached_next : {b : ℕ} {us vs us' vs' : List Gate} {side : Bool} {g : Gate} → Takes b us vs side g us' vs' → AllFit n us → AllFit n vs
-      → Reached n (stepped n (placed side g) M)
+      → Reached n (taken n (placed side g) M)
   reached_next (from_U {g = g}) fit_u fit_v =
       further (g ∷ []) [] (0 ∷ []) (fit_u.0, tt) tt (record { zeros = refl; ones = refl; only = refl })
   reached_next (from_V {g = g}) fit_u fit_v =
       further [] (g ∷ []) (1 ∷ []) tt (fit_v.0, tt) (record { zeros = refl; ones = refl; only = refl })
 
--- "The root is the last node."
-abbrev Rooted : ℕ → Over → Type 0
-Rooted n M = (i : ℕ) × ((diagram n M.entries).root ≡ node i) × (suc i ≡ length (diagram n M.entries).store.nodes)
-
-pub reached_root : (n : ℕ) (M : Over) → 1 ≤ n → Reached n M → Rooted n M
+pub reached_root : (n : ℕ) (M : Over) → 1 ≤ n → Reached n M → LastRoot (diagram n M.entries)
 reached_root zero M some reached = absurd (omega arith)
-reached_root (suc n) M some r =
-    subst (Rooted (suc n))
-    (sym (schedule_miter (suc n) r.schedule r.us r.vs (fitting_fits r.us r.vs r.schedule r.fitting)) ∙ r.comes)
-    (miter_root n r.us r.vs r.fit_u r.fit_v)
+reached_root (suc n) M some r = subst (λ (N : Over). LastRoot (diagram (suc n) N.entries)) r.comes
+    (subst LastRoot (sym drawn) (miter_root n r.us r.vs r.fit_u r.fit_v))
+  where
+    same : SameTable (suc n) (run (suc n) (steps r.schedule r.us r.vs) start) (miter (suc n) r.us r.vs)
+    same = schedule_miter (suc n) r.schedule r.us r.vs (fitting_fits r.us r.vs r.schedule r.fitting)
+
+    drawn : diagram (suc n) (run (suc n) (steps r.schedule r.us r.vs) start).entries ≡ diagram (suc n) (miter (suc n) r.us r.vs).entries
+    drawn = diagram_ext (suc n) _ _ same.entries.at

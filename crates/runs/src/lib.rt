@@ -10,6 +10,7 @@ ghost use Rattle.runs.specs.Inside.{current, Room, Begun, Started, Followed};
 use choices::Course;
 use miters::{Refusal, StepFault};
 use plans::{Scratch, Sizes, Step};
+use steps::Taken;
 use stores::{Store, Used};
 
 // The nodes and values of the identity: three nodes a qubit, one and zero.
@@ -42,27 +43,28 @@ fn begin(left: usize, n: u32, first: &mut Store<'_>, second: &mut Store<'_>)
     }
 }
 
-// One step, with so many left: from the store that is current into the other one.
+// One step, with so many left: from the store that is current into the other one; its product is over this exponent.
 fn advance(
     left: usize,
     step: Step,
+    power: u32,
     first: &mut Store<'_>,
     second: &mut Store<'_>,
     scratch: &mut Scratch<'_>,
-) -> Result<Used, StepFault>
+) -> Result<Taken, StepFault>
     requires { stepping.Task step (current left (columns_of first.old) (columns_of second.old))
         (current left (columns_of second.old) (columns_of first.old)) scratch.old }
     ensures left { stepping.Left step (current left (columns_of first.old) (columns_of second.old))
-        (current left (columns_of second.old) (columns_of first.old)) scratch.old
+        (current left (columns_of second.old) (columns_of first.old)) scratch.old power
         (current left (columns_of second.new) (columns_of first.new)) result }
     ensures same_first { SameColumns first.old first.new }
     ensures same_second { SameColumns second.old second.new }
     ensures same_scratch { SameScratch scratch.old scratch.new }
 {
     if left % 2 == 0 {
-        steps::take_step(step, &first.view(), second, scratch)
+        steps::take_step(step, power, &first.view(), second, scratch)
     } else {
-        steps::take_step(step, &second.view(), first, scratch)
+        steps::take_step(step, power, &second.view(), first, scratch)
     }
 }
 
@@ -83,30 +85,34 @@ fn follow(
     let n = course.n;
     let steps = course.schedule.len();
     let mut lists = course.lists;
-    let mut used = Used {
-        nodes: NODES_A_QUBIT * n,
-        values: IDENTITY_VALUES,
+    let mut taken = Taken {
+        used: Used {
+            nodes: NODES_A_QUBIT * n,
+            values: IDENTITY_VALUES,
+        },
+        exponent: 0,
     };
-    let mut exponent = 0;
     for (i, byte) in course.schedule.iter().enumerate() {
         let action = choices::choose(&mut lists, *byte, n);
         let step = Step {
             action,
             n,
             sizes,
-            used,
+            used: taken.used,
         };
+        let power = taken.exponent + choices::halves(action);
         let finished = i as u32;
-        used = advance(steps - i, step, first, second, scratch).map_err(|fault| Refusal::Step {
-            fault,
-            steps: finished,
+        taken = advance(steps - i, step, power, first, second, scratch).map_err(|fault| {
+            Refusal::Step {
+                fault,
+                steps: finished,
+            }
         })?;
-        exponent += choices::halves(action);
     }
     Ok(Finish {
         steps: steps as u32,
-        exponent,
-        used,
+        exponent: taken.exponent,
+        used: taken.used,
     })
 }
 

@@ -18,9 +18,9 @@ use Rattle.uniques.proofs.Chains.{length_listed}
 use Rattle.stores.proofs.Stores.{listed_all}
 use Rattle.diagrams.proofs.Diagrams.{diagram_reduced, diagram_gives}
 use Rattle.miters.specs.Report.{verdict}
+use Rattle.miters.proofs.Verdicts.{verdict_ext}
 use Rattle.cofactors.specs.Slots.{store_in, value_at, given}
 use Rattle.searches.specs.Ready.{Searchable}
-use Rattle.searches.proofs.Verdicts.{verdict_ext}
 
 -- ---- the store in columns that begin with it
 
@@ -95,4 +95,4 @@ module _ (n : ℕ) (M : Matrix) (nodes values : ℕ) (cols : Columns) (is : stor
   pub diagram_verdict : (diagram n M).root ≡ node (nodes - 1) → verdict n (given (store_in nodes values cols) (node (nodes - 1))) ≡ verdict n M
   diagram_verdict root_is =
       subst₂ (λ (s : Store Entry) (r : Ref). verdict n (given s r) ≡ verdict n M) (sym is) root_is
-      (verdict_ext n (given (diagram n M).store (diagram n M).root) M (diagram_gives n M))
+      (verdict_ext n (record { at = diagram_gives n M }))

@@ -1,29 +1,29 @@
--- What is sought from the root on comes to the verdict, and the verdict depends on the matrix's entries alone.
+-- What is sought from the root on comes to the verdict.
 -- Assumes nothing.
-use mathlib.Core.Path.{◌≡◌, refl, sym, ◌∙◌, ap, ap₂, subst}
+use mathlib.Core.Path.{◌≡◌, refl, sym, ◌∙◌, ap, subst}
 use mathlib.Core.Bool.{Bool, true, false, cond, not}
 use mathlib.Core.List.{[], ◌∷◌}
 use mathlib.Core.Option.{Option as Lowest, none, some}
 use Prim.Native.Nat.{ℕ, zero, suc, ◌+◌, ◌*◌, ◌/◌, ◌^◌}
 use native.Mathlib.Nat.{pow-suc}
 use native.Mathlib.Omega.{arith}
-use lib.ListN.{length, replicate, length-replicate}
+use lib.ListN.{length}
 use lib.Dec.{eqb}
 use Rattle.algebra.specs.declared.Entry.{Entry}
 use Rattle.algebra.specs.Entry.{𝟘}
 use Rattle.algebra.specs.Matrix.{Bits, Matrix, same}
-use Rattle.diagrams.specs.Diagram.{levels, place, rows, columns, entries, same_entry}
+use Rattle.diagrams.specs.Diagram.{levels, place, rows, columns, same_entry}
 use Rattle.diagrams.proofs.Places.{length_halves}
 use Rattle.miters.specs.declared.Verdict.{Verdict}
 use Rattle.miters.specs.declared.Verdict.TheVariants.{Equal, Different}
 use Rattle.miters.specs.Miter.{corner}
 use Rattle.miters.specs.Report.{number, forbids, lowest, verdict_by, verdict}
-use Rattle.miters.proofs.Verdicts.{Searched, nowhere, least, lowest_searched}
+use Rattle.miters.proofs.Verdicts.{Searched, nowhere, least, lowest_searched, lowest_ext}
 use Rattle.std.specs.Prelude.{Option, Some, None}
 use Rattle.places.specs.declared.Place.{Place}
 use Rattle.places.specs.declared.Task.{Task}
 use Rattle.places.specs.Search.{onward, is_zero, allows, forbids_from, found_at, found_from, sought}
-use Rattle.places.proofs.Blocks.{lowest_ext, onward_eqb}
+use Rattle.places.proofs.Blocks.{onward_eqb}
 
 -- two answers that agree on none and on all bits of the right length agree on the lowest
 at_lowest : {A : Type 0} (k : ℕ) (test : Bits → Bool) (f g : Lowest Bits → A) → f none ≡ g none
@@ -33,28 +33,6 @@ at_lowest k test f g without within = by_search (lowest k test) (lowest_searched
     by_search : (o : Lowest Bits) → Searched k test o → f o ≡ g o
     by_search o (nowhere clear) = without
     by_search o (least {l = l} low) = within l low.long
-
--- ---- only the entries on n qubits count
-
-module _ (n : ℕ) (M N : Matrix) (alike : (r c : Bits) → length r ≡ n → length c ≡ n → M r c ≡ N r c) where
-  corner_ext : corner n M ≡ corner n N
-  corner_ext = alike (replicate n false) (replicate n false) (length-replicate n false) (length-replicate n false)
-
-  entries_ext : (l : Bits) → length l ≡ levels n → entries M l ≡ entries N l
-  entries_ext l e = let h = length_halves n l e in alike (rows l) (columns l) h.0 h.1
-
-  pub verdict_ext : verdict n M ≡ verdict n N
-  unfolding verdict
-  verdict_ext =
-      ap (verdict_by n M) (lowest_ext (levels n) (forbids n M) (forbids n N) forbids_ext)
-      ∙ at_lowest (levels n) (forbids n N) (verdict_by n M) (verdict_by n N) (ap Equal corner_ext) different
-    where
-      forbids_ext : (l : Bits) → length l ≡ levels n → forbids n M l ≡ forbids n N l
-      forbids_ext l e = ap₂ (λ (x z : Entry). not (same_entry x (cond (same (rows l) (columns l)) z 𝟘))) (entries_ext l e) corner_ext
-
-      different : (l : Bits) → length l ≡ levels n → verdict_by n M (some l) ≡ verdict_by n N (some l)
-      different l e = ap₂ (λ (x z : Entry). Different (record { row = number (rows l); column = number (columns l); entry = x; corner = z }))
-          (entries_ext l e) corner_ext
 
 -- ---- the numbers of a place
 

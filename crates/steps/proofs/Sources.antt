@@ -15,10 +15,12 @@ use Rattle.std.specs.Prelude.{Option, Result, Ok, Err}
 use Rattle.algebra.specs.declared.Entry.{Entry}
 use Rattle.algebra.specs.Entry.{𝟘}
 use Rattle.algebra.specs.Matrix.{Matrix}
+use Rattle.algebra.specs.Lowering.{ValuesOver, lower_values}
+use Rattle.lowerings.specs.Lowered.{Lowers}
 use Rattle.gates.proofs.LocalRules.{target_fits}
-use Rattle.diagrams.specs.Diagram.{code, Store, holding, diagram, slot, same_entry}
+use Rattle.diagrams.specs.Diagram.{code, Store, holding, Diagram, diagram, slot, same_entry}
 use Rattle.stores.specs.declared.View.{View}
-use Rattle.stores.specs.Columns.{Columns, columns, viewed, value_columns, entries_of, zero_ref, Published, SameValues, ValueColumns, zeroed}
+use Rattle.stores.specs.Columns.{Columns, columns, viewed, value_columns, entries_of, zero_ref, Published, SameValues, ValueColumns, zeroed, Holds}
 use Rattle.uniques.specs.declared.NodeTable.{NodeTable}
 use Rattle.uniques.specs.declared.ValueTable.{ValueTable}
 use Rattle.uniques.specs.UniqueTable.{listed, node_in, nodes_in, NodesHeld, value_in, values_in, table_values, ValuesHeld}
@@ -29,7 +31,9 @@ use Rattle.stores.proofs.Stores.{table_holds, level_held, low_held, high_held, e
 use Rattle.diagrams.proofs.Tests.{Decides, both_true, entry_decides}
 use Rattle.miters.specs.declared.StepFault.{StepFault}
 use Rattle.miters.specs.declared.StepFault.TheVariants.{OutsideWidth as TooWide, NoRoom}
+use Rattle.miters.specs.Miter.{Over, table, lowered}
 use Rattle.miters.specs.Run.{Lent, in_width, has_room}
+use Rattle.miters.proofs.LoweredDiagrams.{with_values, diagram_lowered, lower_length, room_lowered}
 use Rattle.transitions.specs.declared.Plan.{Plan as CodePlan}
 use Rattle.transitions.specs.Plan.{plan_of}
 use Rattle.plans.specs.Prepare.{product_on, PlanFor}
@@ -51,6 +55,7 @@ use Rattle.plans.specs.declared.Scratch.{Scratch as LentScratch}
 use Rattle.plans.specs.Layout.{counted, planned, Planning, Roomy, Cleared}
 use Rattle.plans.proofs.Plans.{planned_for}
 use Rattle.steps.specs.Answering.{come_to, Walked}
+use Rattle.steps.specs.declared.Taken.{Taken}
 use Rattle.steps.specs.Stepping.{Task, Took, lent_with}
 use Rattle.steps.specs.Stepping as stepping
 
@@ -423,19 +428,21 @@ module _ (followed : Planned) {step : Step} {destination : Columns} {lent_scratc
           by_left (too_wide out) e = cc
 
       -- the step is refused
-      pub refused : {fault : StepFault} → come_to after r ≡ Err fault → {C' : Columns} → Took lent step.n result C' (Err fault)
-      refused {fault} comes {C'} = by_left leaves comes
+      pub refused : {fault : StepFault} → come_to after r ≡ Err fault → (power : ℕ) {C' : Columns}
+          → Took lent step.n (table power result) C' (Err fault)
+      refused {fault} comes power {C'} = by_left leaves comes
         where
           by_left : {r : Result ℕ OutsideWidth} → Stepped lent step.n result after r → come_to after r ≡ Err fault
-              → Took lent step.n result C' (Err fault)
+              → Took lent step.n (table power result) C' (Err fault)
           by_left (built within room has_built store) e = let none = rw has_built at e in cc
           by_left (too_large within room is_full) e =
               let full = rw is_full at e in
               let is : NoRoom ≡ fault = cc in
-              subst (λ (f : StepFault). Took lent step.n result C' (Err f)) is (stepping.too_large within room)
+              subst (λ (f : StepFault). Took lent step.n (table power result) C' (Err f)) is
+              (stepping.too_large within (room_lowered lent step.n (table power result) ∙ room))
           by_left (too_wide out) e =
               let is : TooWide ≡ fault = cc in
-              subst (λ (f : StepFault). Took lent step.n result C' (Err f)) is (stepping.too_wide out)
+              subst (λ (f : StepFault). Took lent step.n (table power result) C' (Err f)) is (stepping.too_wide out)
 
       abbrev counts : Used
       counts = record { nodes = after.nodes.now.used; values = after.values.now.used }
@@ -467,28 +474,56 @@ module _ (followed : Planned) {step : Step} {destination : Columns} {lent_scratc
               },
             )
 
-        -- published, the product is held by the columns
-        pub took : Built → {C' : Columns}
+        -- divided while it goes and published, the product is held by the columns
+        pub took : Built → (power : ℕ) {C' : Columns}
             → length after.nodes.now.level.now ≡ length destination.level → length after.nodes.now.low.now ≡ length destination.low
             → length after.nodes.now.high.now ≡ length destination.high
-            → Published (table_values after.values.now) C C' → Took lent step.n result C' (Ok counts)
-        took b {C'} level_long low_long high_long published =
-            stepping.built b.within b.room b.nodes b.values
-            (table_holds D (
-              ap length level_is ∙ (level_long ∙ task.room.of_level),
-              ap length low_is ∙ (low_long ∙ task.room.of_low),
-              ap length high_is ∙ (high_long ∙ task.room.of_high),
-            ) nodes_are b.few_nodes (long_a, long_b, long_c, long_d) b.few_values
-            (subst (λ (vs : List Entry). Published vs C C') (ap (λ (t : Store Entry). t.values) b.store) published))
+            → {vs : List Entry} {exponent : ℕ} → Lowers power (table_values after.values.now) vs exponent
+            → Published vs C C' → Took lent step.n (table power result) C' (Ok (record { used = counts; exponent = exponent }))
+        took b power {C'} level_long low_long high_long {vs} {exponent} lowers published =
+            subst (λ (k : ℕ). Took lent step.n M C' (Ok (record { used = counts; exponent = k }))) (sym exponent_is)
+            (stepping.built b.within (room_lowered lent step.n M ∙ b.room)
+            (b.nodes ∙ sym (ap (λ (d : Diagram Entry). length d.store.nodes) drawn))
+            (b.values ∙ sym (ap (λ (d : Diagram Entry). length d.store.values) drawn ∙ same_length))
+            (subst (λ (d : Diagram Entry). Holds N L d.store C') (sym drawn) held))
           where
-            D : Store Entry
-            D = (diagram step.n result).store
+            M : Over
+            M = table power result
 
-            nodes_are : nodes_in (length D.nodes) C.level C.low C.high ≡ D.nodes
+            D : Diagram Entry
+            D = diagram step.n result
+
+            low : ValuesOver
+            low = lower_values power D.store.values
+
+            drawn : diagram step.n (lowered step.n M).entries ≡ with_values D low.values
+            drawn = (diagram_lowered step.n power result).0
+
+            values_are : table_values after.values.now ≡ D.store.values
+            values_are = ap (λ (t : Store Entry). t.values) b.store
+
+            exponent_is : exponent ≡ (lowered step.n M).power
+            exponent_is =
+                lowers.exponent ∙ ap (λ (l : List Entry). (lower_values power l).power) values_are ∙ sym (diagram_lowered step.n power result).1
+
+            same_length : length low.values ≡ length D.store.values
+            same_length = lower_length power D.store.values
+
+            nodes_are : nodes_in (length D.store.nodes) C.level C.low C.high ≡ D.store.nodes
             nodes_are =
                 rw (level_is, low_is, high_is)
                 (ap (λ (k : ℕ). nodes_in k after.nodes.now.level.now after.nodes.now.low.now after.nodes.now.high.now) (sym b.nodes)
                 ∙ ap (λ (t : Store Entry). t.nodes) b.store)
+
+            held : Holds N L (with_values D low.values).store C'
+            held =
+                table_holds (with_values D low.values).store (
+                  ap length level_is ∙ (level_long ∙ task.room.of_level),
+                  ap length low_is ∙ (low_long ∙ task.room.of_low),
+                  ap length high_is ∙ (high_long ∙ task.room.of_high),
+                ) nodes_are b.few_nodes (long_a, long_b, long_c, long_d) (omega (arith, same_length, b.few_values))
+                (subst (λ (l : List Entry). Published l C C') (lowers.values ∙ ap (λ (l : List Entry). (lower_values power l).values) values_are)
+                published)
 
     -- the same of a walk that is known by its tables and its answer
     module _ {nodes nodes' : NodeTable} {values values' : ValueTable} {answer : Result (Unit {0}) StepFault}
@@ -500,7 +535,8 @@ module _ (followed : Planned) {step : Step} {destination : Columns} {lent_scratc
       value_room_before : value_room walked.before ≡ length terminals'
       value_room_before = ap (λ (t : ValueTable). length t.terminals.now) walked.from_values ∙ value_room_is
 
-      pub walk_refused : {fault : StepFault} → answer ≡ Err fault → {C' : Columns} → Took lent step.n result C' (Err fault)
+      pub walk_refused : {fault : StepFault} → answer ≡ Err fault → (power : ℕ) {C' : Columns}
+          → Took lent step.n (table power result) C' (Err fault)
       walk_refused e =
           refused walked.before walked.after walked.multiplied node_room_before value_room_before walked.same (sym walked.comes_to ∙ e)
 
@@ -509,44 +545,44 @@ module _ (followed : Planned) {step : Step} {destination : Columns} {lent_scratc
         walk_built =
             builds walked.before walked.after walked.multiplied node_room_before value_room_before walked.same (sym walked.comes_to ∙ going)
 
-        pub walk_publishable : {C : Columns}
-            → C.level ≡ nodes'.level.now → C.low ≡ nodes'.low.now → C.high ≡ nodes'.high.now → SameValues destination C
-            → {ts : List Entry} → ts ≡ values'.terminals.now → (values'.used ≤ length ts) × ValueColumns C (length (take values'.used ts))
-        walk_publishable {C} level_is low_is high_is stay {ts} terminals_are =
-            let room = by_walk level_is low_is high_is stay in
-            let few : values'.used ≤ length ts = rw terminals_are room.0 in
-            (few, rw (length-take-le values'.used ts few) room.1)
-          where
-            by_walk : {C : Columns} → C.level ≡ nodes'.level.now → C.low ≡ nodes'.low.now → C.high ≡ nodes'.high.now → SameValues destination C
-                → (values'.used ≤ length values'.terminals.now) × ValueColumns C values'.used
-            by_walk = rw (← walked.of_values, ← walked.of_nodes) (λ level_is low_is high_is stay.
-                publishable walked.before walked.after walked.multiplied node_room_before value_room_before walked.same
-                level_is low_is high_is stay walk_built)
+        by_walk : {C : Columns} → C.level ≡ nodes'.level.now → C.low ≡ nodes'.low.now → C.high ≡ nodes'.high.now → SameValues destination C
+            → (values'.used ≤ length values'.terminals.now) × ValueColumns C values'.used
+        by_walk = rw (← walked.of_values, ← walked.of_nodes) (λ level_is low_is high_is stay.
+            publishable walked.before walked.after walked.multiplied node_room_before value_room_before walked.same
+            level_is low_is high_is stay walk_built)
 
         pub walk_fits : {ts : List Entry} → ts ≡ values'.terminals.now → values'.used ≤ length ts
-        walk_fits terminals_are =
-            (walk_publishable
+        walk_fits terminals_are = rw terminals_are
+            (by_walk
             {C = columns nodes'.level.now nodes'.low.now nodes'.high.now destination.a destination.b destination.c destination.d}
-            refl refl refl (record { same_a = refl; same_b = refl; same_c = refl; same_d = refl }) terminals_are).0
+            refl refl refl (record { same_a = refl; same_b = refl; same_c = refl; same_d = refl })).0
 
-        abbrev holding_now : Used
-        holding_now = record { nodes = nodes'.used; values = values'.used }
+        module _ {C : Columns} (level_is : C.level ≡ nodes'.level.now) (low_is : C.low ≡ nodes'.low.now) (high_is : C.high ≡ nodes'.high.now)
+            (stay : SameValues destination C) {ts : List Entry} (terminals_are : ts ≡ values'.terminals.now)
+            {power exponent : ℕ} {vs : List Entry} (lowers : Lowers power (take values'.used ts) vs exponent) where
+          pub walk_publishable : ValueColumns C (length vs)
+          walk_publishable =
+              let as_many : length vs ≡ values'.used = ap length lowers.values
+              ∙ (lower_length power (take values'.used ts) ∙ length-take-le values'.used ts (walk_fits terminals_are)) in
+              rw as_many (by_walk level_is low_is high_is stay).1
 
-        pub walk_took : {C C' : Columns}
-            → C.level ≡ nodes'.level.now → C.low ≡ nodes'.low.now → C.high ≡ nodes'.high.now → SameValues destination C
-            → length nodes'.level.now ≡ length destination.level → length nodes'.low.now ≡ length destination.low
-            → length nodes'.high.now ≡ length destination.high
-            → {ts : List Entry} → ts ≡ values'.terminals.now → Published (take values'.used ts) C C' → Took lent step.n result C' (Ok holding_now)
-        walk_took {C} {C'} level_is low_is high_is stay level_long low_long high_long {ts} terminals_are published =
-            let few = (walk_publishable level_is low_is high_is stay terminals_are).0 in
-            let values_are : take values'.used ts ≡ table_values values'
-            = sym (listed_take ts 𝟘 values'.used few) ∙ ap (values_in values'.used) terminals_are in
-            by_walk level_is low_is high_is stay level_long low_long high_long (subst (λ (vs : List Entry). Published vs C C') values_are published)
-          where
-            by_walk : {C C' : Columns} → C.level ≡ nodes'.level.now → C.low ≡ nodes'.low.now → C.high ≡ nodes'.high.now → SameValues destination C
-                → length nodes'.level.now ≡ length destination.level
-                → length nodes'.low.now ≡ length destination.low → length nodes'.high.now ≡ length destination.high
-                → Published (table_values values') C C' → Took lent step.n result C' (Ok holding_now)
-            by_walk = rw (← walked.of_values, ← walked.of_nodes) (λ level_is low_is high_is stay level_long low_long high_long published.
-                took walked.before walked.after walked.multiplied node_room_before value_room_before walked.same
-                level_is low_is high_is stay walk_built level_long low_long high_long published)
+          abbrev holding_now : Taken
+          holding_now = record { used = record { nodes = nodes'.used; values = values'.used }; exponent = exponent }
+
+          pub walk_took : {C' : Columns}
+              → length nodes'.level.now ≡ length destination.level → length nodes'.low.now ≡ length destination.low
+              → length nodes'.high.now ≡ length destination.high → Published vs C C' → Took lent step.n (table power result) C' (Ok holding_now)
+          walk_took level_long low_long high_long published =
+              of_walk level_is low_is high_is level_long low_long high_long
+              (subst (λ (l : List Entry). Lowers power l vs exponent) values_are lowers) published
+            where
+              values_are : take values'.used ts ≡ table_values values'
+              values_are = sym (listed_take ts 𝟘 values'.used (walk_fits terminals_are)) ∙ ap (values_in values'.used) terminals_are
+
+              of_walk : {C' : Columns} → C.level ≡ nodes'.level.now → C.low ≡ nodes'.low.now → C.high ≡ nodes'.high.now
+                  → length nodes'.level.now ≡ length destination.level → length nodes'.low.now ≡ length destination.low
+                  → length nodes'.high.now ≡ length destination.high
+                  → Lowers power (table_values values') vs exponent → Published vs C C' → Took lent step.n (table power result) C' (Ok holding_now)
+              of_walk = rw (← walked.of_values, ← walked.of_nodes) (λ level_is low_is high_is level_long low_long high_long lowers published.
+                  took walked.before walked.after walked.multiplied node_room_before value_room_before walked.same
+                  level_is low_is high_is stay walk_built power level_long low_long high_long lowers published)

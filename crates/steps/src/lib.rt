@@ -1,4 +1,5 @@
-// A step along a schedule: the reduced diagram in one store times a gate, into the other store, with tables that follow its size.
+// A step along a schedule: the reduced diagram in one store times a gate, divided by √2 while it goes, into the other store, with tables
+// that follow its size.
 #![tactic(auto)]
 
 ghost use Rattle.stores.specs.Columns.{columns_of, viewed, SameColumns};
@@ -44,15 +45,24 @@ fn walk<'w, 'n, 'v>(
     Ok(())
 }
 
-// The product of the diagram in the source with a gate goes into the target: its counts, or why there is none.
+// What is left of a product: how much of its store holds the diagram, and its exponent.
+#[derive(Clone, Copy)]
+pub struct Taken {
+    pub used: Used,
+    pub exponent: u32,
+}
+
+// The diagram in the source times a gate is a product over this exponent. Divided by √2 while it goes, it is put into the target; or the
+// answer says why there is none.
 pub fn take_step(
     step: Step,
+    power: u32,
     source: &View<'_>,
     target: &mut Store<'_>,
     scratch: &mut Scratch<'_>,
-) -> Result<Used, StepFault>
+) -> Result<Taken, StepFault>
     requires { Task step (viewed source.now) (columns_of target.old) scratch.old }
-    ensures left { Left step (viewed source.now) (columns_of target.old) scratch.old (columns_of target.new) result }
+    ensures left { Left step (viewed source.now) (columns_of target.old) scratch.old power (columns_of target.new) result }
     ensures same_columns { SameColumns target.old target.new }
     ensures same_scratch { SameScratch scratch.old scratch.new }
 {
@@ -78,10 +88,12 @@ pub fn take_step(
     };
     let root = step.used.root();
     walk(&mut nodes, &mut values, scratch.memo, &planned, root)?;
-    let built = Used {
+    let used = Used {
         nodes: nodes.used,
         values: values.used,
     };
-    target.publish(&scratch.terminals[..built.values as usize]);
-    Ok(built)
+    let product = &mut scratch.terminals[..used.values as usize];
+    let exponent = lowerings::lower(product, power);
+    target.publish(product);
+    Ok(Taken { used, exponent })
 }

@@ -1,7 +1,8 @@
 //! Entries: a·w³ + b·w² + c·w + d with w the eighth root of unity, over whole numbers that never wrap.
 //!
-//! A run that is not refused at width 32 has at most 62 + n + 2 H gates: the squares of the numbers in a row add up to 2^k.
-//! So no number met here comes near the end of an i128; if one did, the arithmetic would stop the test.
+//! The squares of the numbers in a row add up to 2^k. A run stops at the first number that 32 bits do not hold, and
+//! lists that are multiplied without dividing have few H. So no number met here comes near the end of an i128; if one
+//! did, the arithmetic would stop the test.
 
 use std::ops::{Add, Mul, Neg};
 
@@ -11,6 +12,9 @@ pub struct Entry([i128; 4]);
 
 pub const ZERO: Entry = Entry([0; 4]);
 pub const ONE: Entry = Entry([1, 0, 0, 0]);
+
+/// √2 is w − w³.
+pub const ROOT_2: Entry = Entry([0, 1, 0, -1]);
 
 impl Entry {
     /// w to this power.
@@ -31,6 +35,12 @@ impl Entry {
     /// The four numbers.
     pub fn numbers(&self) -> [i128; 4] {
         self.0
+    }
+
+    /// The entry that times √2 is this one, if there is one: half of this one times √2.
+    pub fn over_root_2(&self) -> Option<Entry> {
+        let double = *self * ROOT_2;
+        double.0.iter().all(|number| number % 2 == 0).then(|| Entry(double.0.map(|number| number / 2)))
     }
 
     /// The least width in bits that holds all four numbers.

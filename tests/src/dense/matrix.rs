@@ -156,6 +156,12 @@ impl Matrix {
         &self.entries
     }
 
+    /// Every entry over √2, if each is a multiple of it.
+    pub fn over_root_2(&self) -> Option<Matrix> {
+        let entries = self.entries.iter().map(Entry::over_root_2).collect::<Option<Vec<Entry>>>()?;
+        Some(Matrix { size: self.size, entries })
+    }
+
     /// The product by its definition; terms with a zero are left out.
     pub fn times(&self, right: &Matrix) -> Matrix {
         let mut product = Matrix { size: self.size, entries: vec![ZERO; self.entries.len()] };

@@ -45,8 +45,24 @@ impl Miter {
         v.gates.iter().fold(Miter::of_circuit(u), apply)
     }
 
+    /// Divided by √2 while the exponent is above 0 and every entry is a multiple of it.
+    pub fn lowered(mut self) -> Miter {
+        while self.exponent > 0 {
+            match self.matrix.over_root_2() {
+                Some(matrix) => self = Miter { matrix, exponent: self.exponent - 1 },
+                None => break,
+            }
+        }
+        self
+    }
+
     fn corner(&self) -> Entry {
         self.matrix.at(0, 0)
+    }
+
+    /// The least width that holds every number.
+    pub fn width(&self) -> u32 {
+        self.matrix.entries().iter().map(Entry::width).max().expect("a matrix has entries")
     }
 
     /// Equal with its factor, or different with the lowest place that forbids it.
@@ -69,7 +85,7 @@ impl Miter {
     }
 }
 
-/// What a step's product needs.
+/// What a step needs: the width for its product, nodes and values for what is left when that is divided.
 #[derive(Clone, Copy, Debug, PartialEq, Eq)]
 pub struct Needs {
     pub width: u32,
@@ -78,10 +94,9 @@ pub struct Needs {
 }
 
 impl Needs {
-    fn of(miter: &Miter) -> Needs {
-        let reduced = Reduced::of(&miter.matrix);
-        let width = miter.matrix.entries().iter().map(Entry::width).max().expect("a matrix has entries");
-        Needs { width, nodes: reduced.nodes(), values: reduced.values() }
+    fn of(product: &Miter, lowered: &Miter) -> Needs {
+        let reduced = Reduced::of(&lowered.matrix);
+        Needs { width: product.width(), nodes: reduced.nodes(), values: reduced.values() }
     }
 
     /// What both need.
@@ -97,9 +112,11 @@ impl Needs {
 /// A run by a schedule, up to its end or to the first product that no width holds.
 #[derive(Clone, Debug)]
 pub struct Run {
-    /// What the identity needs, then what the product after each step needs.
+    /// What the identity needs, then what each step needs.
     pub needs: Vec<Needs>,
-    /// The last product.
+    /// The last step's product, before it is divided.
+    pub product: Miter,
+    /// What the run comes to: that product, divided.
     pub last: Miter,
 }
 
@@ -110,18 +127,20 @@ impl Run {
         assert!(qubits <= MOST_QUBITS, "{qubits} qubits are too many for every step");
         let (mut from_u, mut from_v) = (u.gates.iter(), v.gates.iter());
         let mut last = Miter::identity(qubits);
-        let mut needs = vec![Needs::of(&last)];
+        let mut product = last.clone();
+        let mut needs = vec![Needs::of(&product, &last)];
         for &side in schedule {
-            last = match side {
+            product = match side {
                 0 => last.on_the_left(from_u.next().expect("a gate of U"), qubits),
                 _ => last.on_the_right(&from_v.next().expect("a gate of V").inverse(), qubits),
             };
-            needs.push(Needs::of(&last));
-            if needs[needs.len() - 1].width > WIDEST {
+            last = product.clone().lowered();
+            needs.push(Needs::of(&product, &last));
+            if product.width() > WIDEST {
                 break;
             }
         }
-        Run { needs, last }
+        Run { needs, product, last }
     }
 
     /// The least limits that the whole run keeps.

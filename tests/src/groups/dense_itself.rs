@@ -2,12 +2,13 @@
 
 use gannetrope::Verdict;
 
-use crate::circuits::{random_circuit, rewritten, spoiled};
-use crate::dense::entry::{Entry, ONE, ZERO};
+use crate::circuits::{random_circuit, rewritten, spoiled, with_many_h};
+use crate::dense::entry::{Entry, ONE, ROOT_2, ZERO};
 use crate::dense::matrix::{CNOT, CODES, CZ, Gate, Matrix, targets};
 use crate::dense::miter::{Miter, Run};
 use crate::dense::reader::{Circuit, read_list};
 use crate::dense::{proportional, verdict_line};
+use crate::groups::random_pairs::pair_of;
 use crate::random::Random;
 use crate::tally::{Checked, Tally, alike};
 
@@ -21,6 +22,22 @@ const WRITTEN_OUT: [(&[u8], [usize; 8]); 6] = [
     (&[3, 1, 11, 0b100, 0, 1], [0, 1, 2, 5, 4, 3, 6, 7]),
 ];
 
+/// Entries a b c d, and what they are over √2: 2 is √2·√2, √2 is w − w³, and i − 1 is √2·w³.
+const DIVIDED: [([i32; 4], Option<[i32; 4]>); 6] = [
+    ([0, 0, 0, 2], Some([-1, 0, 1, 0])),
+    ([-1, 0, 1, 0], Some([0, 0, 0, 1])),
+    ([0, 1, 0, -1], Some([1, 0, 0, 0])),
+    ([0, 0, 0, 0], Some([0, 0, 0, 0])),
+    ([0, 0, 0, 1], None),
+    ([1, 1, 1, 0], None),
+];
+
+/// The most gates of a list with many H; its numbers fit an i128 without any dividing.
+const MANY_H: usize = 30;
+
+/// How many random pairs a case has.
+const PAIRS: usize = 10;
+
 pub fn run(tally: &mut Tally, seed: u64) {
     for code in 0..CODES {
         tally.case(&format!("inverse of code {code}"), || inverse_undoes(code));
@@ -28,14 +45,19 @@ pub fn run(tally: &mut Tally, seed: u64) {
     for (list, rows) in WRITTEN_OUT {
         tally.case(&format!("matrix of {list:?}"), || written_out(list, &rows));
     }
+    for (numbers, over_root_2) in DIVIDED {
+        tally.case(&format!("{numbers:?} over √2"), || divided(numbers, over_root_2));
+    }
     tally.case("proportional schedule of 2 and 4", example_schedule);
     tally.case("the paper's input", example_input);
     let mut random = Random::new(seed);
     for qubits in 1..=4 {
         for flavour in ["random", "rewritten", "spoiled"] {
             let name = format!("equal by its meaning, {qubits} qubits, {flavour}, seed {seed}");
-            tally.case(&name, || (0..10).try_for_each(|_| equal_by_meaning(&mut random, qubits, flavour)));
+            tally.case(&name, || (0..PAIRS).try_for_each(|_| equal_by_meaning(&mut random, qubits, flavour)));
         }
+        let name = format!("least exponent, {qubits} qubits, seed {seed}");
+        tally.case(&name, || (0..PAIRS).try_for_each(|_| least_exponent(&mut random, qubits)));
     }
 }
 
@@ -66,6 +88,12 @@ fn written_out(list: &[u8], rows: &[usize; 8]) -> Checked {
     if Miter::of_circuit(&circuit).matrix == expected { Ok(()) } else { Err(format!("another matrix of {circuit:?}")) }
 }
 
+fn divided([a, b, c, d]: [i32; 4], over_root_2: Option<[i32; 4]>) -> Checked {
+    let found = Entry::from(gannetrope::Entry { a, b, c, d }).over_root_2();
+    let expected = over_root_2.map(|[a, b, c, d]| Entry::from(gannetrope::Entry { a, b, c, d }));
+    if found == expected { Ok(()) } else { Err(format!("found {found:?}, expected {expected:?}")) }
+}
+
 fn example_schedule() -> Checked {
     alike("schedule", format!("{:?}", proportional(2, 4)), "[0, 1, 1, 0, 1, 1]".to_string())
 }
@@ -90,6 +118,28 @@ fn equal_by_meaning(random: &mut Random, qubits: u32, flavour: &str) -> Checked 
         (Verdict::Equal { .. }, true) | (Verdict::Different { .. }, false) => Ok(()),
         _ => Err(format!("{verdict} of {u:?} and {v:?}")),
     }
+}
+
+/// What a run comes to is the undivided product over a smaller exponent, which is 0, or not "every entry has both a + c
+/// and b + d even".
+fn least_exponent(random: &mut Random, qubits: u32) -> Checked {
+    let (u, v) = pair_of(random, |random| with_many_h(random, qubits, MANY_H));
+    let run = Run::of(&u, &v, &proportional(u.gates.len(), v.gates.len()));
+    let whole = Miter::of_pair(&u, &v);
+    let (most, least) = (whole.exponent, run.last.exponent);
+    let divisions =
+        most.checked_sub(least).ok_or_else(|| format!("exponent {least} is over {most}, of {u:?} and {v:?}"))?;
+    let raise = |&entry: &Entry| (0..divisions).fold(entry, |product, _| product * ROOT_2);
+    let raised: Vec<Entry> = run.last.matrix.entries().iter().map(raise).collect();
+    if raised != whole.matrix.entries() {
+        return Err(format!("another matrix of {u:?} and {v:?}"));
+    }
+    let is_even = |entry: &Entry| {
+        let [d, c, b, a] = entry.numbers();
+        (a + c) % 2 == 0 && (b + d) % 2 == 0
+    };
+    let is_least = least == 0 || !run.last.matrix.entries().iter().all(is_even);
+    alike("least exponent", is_least, true)
 }
 
 /// Whether U's matrix is a multiple of V's: every two places have the same ratio in both.

@@ -15,7 +15,7 @@ pub fn run(tally: &mut Tally, home: &Path) {
 fn example(crate_directory: &Path) -> Checked {
     let output = cargo(crate_directory, &["run", "--release", "--offline", "--quiet", "--example", "judge"])?;
     let printed = String::from_utf8_lossy(&output.stdout);
-    let line = "equal factor 0 0 0 2 exponent 2 steps 4 nodes 6 values 2";
+    let line = "equal factor 0 0 0 1 exponent 0 steps 4 nodes 6 values 2";
     alike("first line", printed.lines().next().unwrap_or_default(), line)
 }
 

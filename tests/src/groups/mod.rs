@@ -11,6 +11,7 @@ pub mod header;
 pub mod inverses;
 pub mod invert;
 pub mod judge;
+pub mod lowering;
 pub mod many_qubits;
 pub mod map;
 pub mod masks;

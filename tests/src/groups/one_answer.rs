@@ -1,16 +1,22 @@
 //! The same pair under many schedules, widths, sizes and earlier contents gives one report and one store.
 
 use crate::call::{self, Lent};
-use crate::circuits::list;
+use crate::circuits::{list, with_many_h};
 use crate::dense::miter::{Needs, Run};
+use crate::dense::reader::Circuit;
 use crate::dense::{Call, Outcome, lengths, outcome, proportional};
-use crate::groups::random_pairs::{random_pair, random_schedule};
+use crate::groups::random_pairs::{pair_of, random_pair, random_schedule};
 use crate::hex;
 use crate::random::Random;
 use crate::tally::{Checked, Tally};
 
-/// How many pairs of each number of qubits.
-const PAIRS: [usize; 5] = [12, 12, 12, 8, 4];
+/// How many pairs of each number of qubits, and how many gates a list of them has at most.
+const PAIRS: [u64; 5] = [12, 12, 12, 8, 4];
+const MOST_GATES: usize = 18;
+
+/// What keeps the seeds apart from those of other groups, and of each number of qubits.
+const FIRST_SEED: u64 = 500_000;
+const SEEDS: u64 = 1000;
 
 /// How many schedules a pair is judged by, beside the proportional one.
 const SCHEDULES: usize = 10;
@@ -18,30 +24,37 @@ const SCHEDULES: usize = 10;
 pub fn run(tally: &mut Tally, seed: u64) {
     for (qubits, pairs) in (1..).zip(PAIRS) {
         for pair in 0..pairs {
-            let pair_seed = seed + 500_000 + 1000 * u64::from(qubits) + pair as u64;
+            let pair_seed = seed + FIRST_SEED + SEEDS * u64::from(qubits) + pair;
             let name = format!("one answer, {qubits} qubits, seed {pair_seed}");
-            tally.case(&name, || check_pair(&mut Random::new(pair_seed), qubits));
+            tally.case(&name, || {
+                let random = &mut Random::new(pair_seed);
+                // every second pair has an exponent that is lowered at many steps
+                let (u, v) = match pair % 2 {
+                    0 => random_pair(random, qubits, MOST_GATES),
+                    _ => pair_of(random, |random| with_many_h(random, qubits, MOST_GATES)),
+                };
+                check_pair(random, &u, &v)
+            });
         }
     }
 }
 
-fn check_pair(random: &mut Random, qubits: u32) -> Checked {
-    let (u, v) = random_pair(random, qubits, 18);
+fn check_pair(random: &mut Random, u: &Circuit, v: &Circuit) -> Checked {
     let (m, p) = (u.gates.len(), v.gates.len());
     let mut schedules = vec![proportional(m, p)];
     schedules.extend((0..SCHEDULES).map(|_| random_schedule(random, m, p)));
 
     let ample = Needs { width: 32, nodes: 65_536, values: 65_536 };
-    let first = Run::of(&u, &v, &schedules[0]);
+    let first = Run::of(u, v, &schedules[0]);
     let answer = outcome(&first, ample.width, ample.nodes, ample.values);
     let mut lent = Lent::dirty(&lengths(0, 0), &lengths(0, 0), 0);
     for schedule in schedules {
-        let run = Run::of(&u, &v, &schedule);
+        let run = Run::of(u, v, &schedule);
         if outcome(&run, ample.width, ample.nodes, ample.values) != answer {
             return Err(format!("the dense program has two answers, schedule {}", hex::encode(&schedule)));
         }
         let call =
-            Call { list1: list(&u), list2: list(&v), schedule, w: 32, first: lengths(0, 1), second: lengths(0, 1) };
+            Call { list1: list(u), list2: list(v), schedule, w: 32, first: lengths(0, 1), second: lengths(0, 1) };
         check_limits(random, &call, run.peak(), &answer, &mut lent)?;
     }
     Ok(())

@@ -15,8 +15,10 @@ struct Line {
 }
 
 pub fn run(tally: &mut Tally) {
-    for line in one_qubit().into_iter().chain(two_qubits()).chain(widths()).chain(sizes()).chain(bytes()) {
-        tally.case(line.name, || check(&line));
+    for lines in [one_qubit(), many_h(), two_qubits(), widths(), sizes(), bytes()] {
+        for line in lines {
+            tally.case(line.name, || check(&line));
+        }
     }
 }
 
@@ -60,7 +62,7 @@ fn one_qubit() -> Vec<Line> {
         Line {
             name: "circuit 2",
             call: pair(&[H, H], &[]),
-            line: "equal factor 0 0 0 2 exponent 2 steps 2 nodes 3 values 2",
+            line: "equal factor 0 0 0 1 exponent 0 steps 2 nodes 3 values 2",
         },
         Line {
             name: "circuit 3",
@@ -87,11 +89,20 @@ fn one_qubit() -> Vec<Line> {
             call: pair(&[Z, X], &[Y]),
             line: "equal factor 0 -1 0 0 exponent 0 steps 3 nodes 3 values 2",
         },
-        Line { name: "circuit 12, 62 H", call: pair(&[H; 62], &[]), line: "refused 13 steps 61" },
+    ]
+}
+
+fn many_h() -> Vec<Line> {
+    vec![
+        Line {
+            name: "circuit 12, 62 H",
+            call: pair(&[H; 62], &[]),
+            line: "equal factor 0 0 0 1 exponent 0 steps 62 nodes 3 values 2",
+        },
         Line {
             name: "circuit 12, 60 H",
             call: pair(&[H; 60], &[]),
-            line: "equal factor 0 0 0 1073741824 exponent 60 steps 60 nodes 3 values 2",
+            line: "equal factor 0 0 0 1 exponent 0 steps 60 nodes 3 values 2",
         },
     ]
 }
@@ -105,7 +116,7 @@ fn two_qubits() -> Vec<Line> {
         Line {
             name: "circuit 7",
             call: ample(&cnot, &by_cz),
-            line: "equal factor 0 0 0 2 exponent 2 steps 4 nodes 6 values 2",
+            line: "equal factor 0 0 0 1 exponent 0 steps 4 nodes 6 values 2",
         },
         Line {
             name: "circuit 8",
@@ -121,17 +132,17 @@ fn widths() -> Vec<Line> {
         Line {
             name: "circuit 9, width 3",
             call: of_width(3, pair(&[H, H], &[])),
-            line: "equal factor 0 0 0 2 exponent 2 steps 2 nodes 3 values 2",
+            line: "equal factor 0 0 0 1 exponent 0 steps 2 nodes 3 values 2",
         },
         Line {
             name: "circuit 10",
             call: of_width(2, pair(&[X, Z, X, Z, H, H], &[])),
-            line: "equal factor 0 0 0 -2 exponent 2 steps 6 nodes 3 values 2",
+            line: "equal factor 0 0 0 -1 exponent 0 steps 6 nodes 3 values 2",
         },
         Line {
             name: "circuit 10, one Z more",
             call: of_width(2, pair(&[X, Z, X, Z, H, H, Z], &[])),
-            line: "refused 13 steps 6",
+            line: "different row 1 column 1 entry 0 0 0 1 corner 0 0 0 -1 exponent 0 steps 7 nodes 3 values 3",
         },
     ]
 }
@@ -147,7 +158,7 @@ fn sizes() -> Vec<Line> {
         Line {
             name: "circuit 11, N = 3, H H",
             call: of_size(3, 8, pair(&[H, H], &[])),
-            line: "equal factor 0 0 0 2 exponent 2 steps 2 nodes 3 values 2",
+            line: "equal factor 0 0 0 1 exponent 0 steps 2 nodes 3 values 2",
         },
         Line { name: "circuit 11, L = 2", call: of_size(3, 2, pair(&[T], &[])), line: "refused 14 steps 0" },
         Line {

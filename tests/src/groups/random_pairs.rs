@@ -16,18 +16,22 @@ pub fn run(tally: &mut Tally, seed: u64) {
         for pair in 0..pairs {
             let pair_seed = seed + 1000 * u64::from(qubits) + pair as u64;
             let name = format!("random pair, {qubits} qubits, seed {pair_seed}");
-            tally.case(&name, || check_pair(&mut Random::new(pair_seed), qubits, most_gates));
+            tally.case(&name, || {
+                let random = &mut Random::new(pair_seed);
+                let (u, v) = random_pair(random, qubits, most_gates);
+                check_pair(random, &u, &v)
+            });
         }
     }
 }
 
-fn check_pair(random: &mut Random, qubits: u32, most_gates: usize) -> Checked {
-    let (u, v) = random_pair(random, qubits, most_gates);
+/// A pair by a random schedule, at all kinds of limits: the report and every slot of both stores.
+pub fn check_pair(random: &mut Random, u: &Circuit, v: &Circuit) -> Checked {
     let schedule = random_schedule(random, u.gates.len(), v.gates.len());
-    let run = Run::of(&u, &v, &schedule);
+    let run = Run::of(u, v, &schedule);
     let call = Call {
-        list1: list(&u),
-        list2: list(&v),
+        list1: list(u),
+        list2: list(v),
         schedule,
         w: 32,
         first: lengths(4096, 1024),
@@ -42,16 +46,20 @@ fn check_pair(random: &mut Random, qubits: u32, most_gates: usize) -> Checked {
     Ok(())
 }
 
-/// Two lists that have nothing to do with each other, or much.
+/// Two random lists that have nothing to do with each other, or much.
 pub fn random_pair(random: &mut Random, qubits: u32, most_gates: usize) -> (Circuit, Circuit) {
-    let gates = random.below(most_gates + 1);
-    let u = random_circuit(random, qubits, gates);
+    pair_of(random, |random| {
+        let gates = random.below(most_gates + 1);
+        random_circuit(random, qubits, gates)
+    })
+}
+
+/// Two lists that are made in one way, or one and what is made of it.
+pub fn pair_of(random: &mut Random, make: impl Fn(&mut Random) -> Circuit) -> (Circuit, Circuit) {
+    let u = make(random);
     let rewritings = random.below(8);
     let v = match random.below(4) {
-        0 => {
-            let gates = random.below(most_gates + 1);
-            random_circuit(random, qubits, gates)
-        }
+        0 => make(random),
         1 => {
             let spoiled = spoiled(random, &u);
             rewritten(random, &spoiled, rewritings)

@@ -5,8 +5,9 @@ use std::path::Path;
 
 use gannetrope::{MOST_GATES, MOST_SLOTS};
 
-use crate::circuits::{S, T, list, program_input, random_circuit};
+use crate::circuits::{S, T, list, on_one_qubit, program_input, random_circuit};
 use crate::dense::matrix::{FREDKIN, Gate, H, TOFFOLI};
+use crate::dense::miter::Run;
 use crate::dense::reader::Circuit;
 use crate::dense::{self, Call, lengths};
 use crate::groups::slow::full_layer;
@@ -31,10 +32,10 @@ const LAYER_LINE: &str =
     "different row 0 column 1 entry 0 1 0 0 corner 0 0 0 1 exponent 16 steps 32 nodes 180 values 4";
 
 /// What the layer and two gates of many controls come to against themselves.
-const CONTROLLED_LINE: &str = "equal factor 0 0 0 65536 exponent 32 steps 68 nodes 48 values 2";
+const CONTROLLED_LINE: &str = "equal factor 0 0 0 1 exponent 0 steps 68 nodes 48 values 2";
 
-/// The H on one qubit that bring a number out of width 32.
-const TOO_MANY_H: usize = 62;
+/// More turns of T and H on one qubit than it takes to bring a number out of width 32.
+const TURNS: usize = 200;
 
 /// A call, and the line that it must come to.
 struct Case {
@@ -105,13 +106,23 @@ fn many_controls() -> [Gate; 2] {
     [swap, Gate::controlled(TOFFOLI, &[&inner[..], &[QUBITS - 1]].concat(), &[0])]
 }
 
+/// T and H on qubit 0 by turns, after what a layer has there, up to the H that brings a number out of width 32. On
+/// other qubits a layer's entries are roots of unity, so the dense program can tell from one qubit.
+fn out_of_width() -> Vec<Gate> {
+    let in_layer = [S, H];
+    let word = on_one_qubit(&[&in_layer[..], &[T, H].repeat(TURNS)].concat());
+    let run = Run::of(&word, &on_one_qubit(&[]), &vec![0; word.gates.len()]);
+    let (identity, taken) = (1, run.needs.len());
+    word.gates[in_layer.len()..taken - identity].to_vec()
+}
+
 fn runs(most: usize) -> Vec<Case> {
     let none = Circuit { qubits: QUBITS, gates: Vec::new() };
     let layer = layer_and(&[]);
     let split = layer_and(&[Gate::new(T, &[0])]);
     let controlled = layer_and(&many_controls());
-    let too_wide = layer_and(&vec![Gate::new(H, &[0]); TOO_MANY_H - 1]);
-    let equal = "equal factor 0 0 0 65536 exponent 32 steps 66 nodes 48 values 2";
+    let too_wide = layer_and(&out_of_width());
+    let equal = "equal factor 0 0 0 1 exponent 0 steps 66 nodes 48 values 2";
     let out_of_width = format!("refused 13 steps {}", too_wide.gates.len() - 1);
     let out_of_room = format!("refused 14 steps {LAYER}");
     let case = |name, call, line: &str| Case { name, call, line: line.to_string() };

@@ -22,11 +22,13 @@ pub fn run(tally: &mut Tally, directory: &Path, program: &Program) {
     };
     all("api-stage00", &check_call);
     all("api-stage02", &check_call);
+    all("api-stage04", &check_call);
     all("schedule", &check_schedule);
     all("inverse-stage01", &check_inverse);
     all("inverse-stage02", &check_inverse);
     all("verdict-stage00", &|vector| check_line(vector, program));
     all("verdict-stage02", &|vector| check_line(vector, program));
+    all("verdict-stage04", &|vector| check_line(vector, program));
 }
 
 fn lines(directory: &Path, file: &str) -> Vec<Json> {

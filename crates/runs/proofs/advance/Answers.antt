@@ -2,19 +2,19 @@
 -- Assumes nothing.
 use mathlib.Core.Path.{◌≡◌, subst}
 use borrow.Author.Tests.{eq-eqb, ne_eqb}
-use Rattle.std.specs.Prelude.{Result}
+use Rattle.std.specs.Prelude.{ℕ, Result}
 use Rattle.stores.specs.Columns.{Columns}
 use Rattle.miters.specs.declared.StepFault.{StepFault}
 use Rattle.plans.specs.declared.Step.{Step}
-use Rattle.stores.specs.declared.Used.{Used}
+use Rattle.steps.specs.declared.Taken.{Taken}
 use Rattle.plans.specs.declared.Scratch.{Scratch}
 use Rattle.steps.specs.Stepping as stepping
 use Rattle.runs.proofs.advance.Goals as goal
 
 -- what a step leaves of the columns that its view shows
-shown_left : {step : Step} {C C' D D' : Columns} {scratch : Scratch} {r : Result Used StepFault}
-    → C ≡ C' → stepping.Left step C D scratch D' r → stepping.Left step C' D scratch D' r
-shown_left {step} {D = D} {D' = D'} {scratch = scratch} {r = r} = subst (λ (X : Columns). stepping.Left step X D scratch D' r)
+shown_left : {step : Step} {power : ℕ} {C C' D D' : Columns} {scratch : Scratch} {r : Result Taken StepFault}
+    → C ≡ C' → stepping.Left step C D scratch power D' r → stepping.Left step C' D scratch power D' r
+shown_left {step} {power} {D = D} {D' = D'} {scratch = scratch} {r = r} = subst (λ (X : Columns). stepping.Left step X D scratch power D' r)
 
 pub returns-then-left-eq0-clause-left : goal.returns-then-left-eq0-clause-left
 returns-then-left-eq0-clause-left c = rw (eq-eqb _ _ c.if-left-eq0.true) (shown_left c.view.ensures c.take_step.ensures.left)

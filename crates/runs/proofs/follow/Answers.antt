@@ -6,7 +6,8 @@ use Rattle.std.proofs.Common.{Ok}
 use Rattle.std.proofs.lemmas.Grind.{common_steps}
 use Rattle.std.proofs.lemmas.Result.{err_from_is_err_and}
 use Rattle.miters.specs.declared.Refusal.TheVariants.{Step as at_step}
-use Rattle.stores.specs.declared.Used.{Used}
+use Rattle.steps.specs.declared.Taken.{Taken}
+use Rattle.choices.proofs.Gates.{as_number_few}
 use Rattle.runs.proofs.Turns.{fault_of}
 use Rattle.runs.proofs.Loops.{few_steps, turning_starts, turning_ends, step_task, turning_stops, turning_on}
 use Rattle.runs.proofs.follow.Goals as goal
@@ -22,38 +23,37 @@ pub advance-requires : goal.advance-requires
 advance-requires c =
     step_task _ _ _ _ _ c.loop-i.invariant c.loop-i-test.true c.choose-action.ensures c.requires
 
+pub overflow_add-power : goal.overflow_add-power
+overflow_add-power c =
+    omega (
+      arith,
+      (c.loop-i.invariant.runs c.requires).few,
+      as_number_few _ c.halves.ensures,
+      c.loop-i-test.true,
+      few_steps _ _ c.args.first.now c.args.second.now _ c.requires,
+    )
+
 pub overflow_cast-finished : goal.overflow_cast-finished
 overflow_cast-finished c = omega (arith, c.loop-i-test.true, few_steps _ _ c.args.first.now c.args.second.now _ c.requires)
 
 -- a step that is refused
-pub returns-in_err-used-clause-followed : goal.returns-in_err-used-clause-followed
-returns-in_err-used-clause-followed c =
+pub returns-in_err-taken-clause-followed : goal.returns-in_err-taken-clause-followed
+returns-in_err-taken-clause-followed c =
     let p = err_from_is_err_and c.from_residual.result c.from_residual.ensures.1 in
-    let no_product : (x : Used) → c.advance.result ≡ Ok x → ⊥ = λ x e. grind (arith, common_steps) in
+    let no_product : (x : Taken) → c.advance.result ≡ Ok x → ⊥ = λ x e. grind (arith, common_steps) in
     let (fault, stops) = fault_of c.advance.result no_product in
-    let is : c.in_err-used.field-0.0 ≡ at_step fault c.loop-i.i = grind (arith, common_steps) in
+    let is : c.in_err-taken.field-0.0 ≡ at_step fault c.loop-i.i = grind (arith, common_steps) in
     rw (p.1, p.2, is)
-    (turning_stops _ _ _ _ _ c.loop-i.invariant c.loop-i-test.true c.choose-action.ensures
+    (turning_stops _ _ _ _ _ c.loop-i.invariant c.loop-i-test.true c.choose-action.ensures c.halves.ensures
     c.advance.new.first c.advance.new.second c.advance.ensures.left stops)
 
 -- a step that is taken
 pub loop-i-preserved : goal.loop-i-preserved
 loop-i-preserved c =
-    let going : c.advance.result ≡ Ok c.in_ok-used.used = grind (arith, common_steps) in
-    turning_on _ _ _ _ _ c.loop-i.invariant c.loop-i-test.true c.choose-action.ensures
-    c.advance.new.first c.advance.new.second c.advance.ensures.left
-    _ going c.halves-exponent.ensures
+    let going : c.advance.result ≡ Ok c.in_ok-taken.taken = grind (arith, common_steps) in
+    turning_on _ _ _ _ _ c.loop-i.invariant c.loop-i-test.true c.choose-action.ensures c.halves.ensures
+    c.advance.new.first c.advance.new.second c.advance.ensures.left going
     c.advance.ensures.same_first c.advance.ensures.same_second c.advance.ensures.same_scratch
-
--- the next turn's invariant knows that the exponent is small
-pub overflow_add-exponent : goal.overflow_add-exponent
-overflow_add-exponent c =
-    omega (
-      arith,
-      ((loop-i-preserved c).runs c.requires).few,
-      c.loop-i-test.true,
-      few_steps _ _ c.args.first.now c.args.second.now _ c.requires,
-    )
 
 -- ---- after the loop
 

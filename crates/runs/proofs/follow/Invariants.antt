@@ -5,4 +5,4 @@ use Rattle.runs.proofs.follow.Given as goal
 abbrev pub invariant-loop-i : goal.invariant-loop-i
 invariant-loop-i l =
     let o = l.initial in
-    Turning l.course l.sizes o.first o.second o.scratch l.lists l.exponent l.i l.used l.first l.second l.scratch
+    Turning l.course l.sizes o.first o.second o.scratch l.lists l.taken l.i l.first l.second l.scratch

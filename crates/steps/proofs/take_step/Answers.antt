@@ -39,11 +39,17 @@ returns-in_err-walk-clause-left c task =
     let stops : c.walk.result ≡ Err c.in_err-walk.field-0.0 = grind (arith, common_steps) in
     rw (p.1, p.2)
     (walk_refused _ task c.plan_step-plan.ensures _ c.clear_tables.ensures.cleared
-    (rw c.root-root.ensures at c.walk.ensures.walked) refl refl stops)
+    (rw c.root-root.ensures at c.walk.ensures.walked) refl refl stops c.args.power)
 
--- it built the product, which is published
-pub slice_bounds-publish-end : goal.slice_bounds-publish-end
-slice_bounds-publish-end c =
+-- it built the product, which is divided while it goes, and published
+pub slice_bounds-product-end : goal.slice_bounds-product-end
+slice_bounds-product-end c =
+    let going : c.walk.result ≡ Ok tt = grind (arith, common_steps) in
+    walk_fits _ c.requires c.plan_step-plan.ensures _ c.clear_tables.ensures.cleared
+    (rw c.root-root.ensures at c.walk.ensures.walked) refl refl going (search rules)
+
+pub slice_bounds-product-end-2 : goal.slice_bounds-product-end-2
+slice_bounds-product-end-2 c =
     let going : c.walk.result ≡ Ok tt = grind (arith, common_steps) in
     sym (length-take-le _ _ (walk_fits _ c.requires c.plan_step-plan.ensures _ c.clear_tables.ensures.cleared
     (rw c.root-root.ensures at c.walk.ensures.walked) refl refl going (search rules)))
@@ -51,9 +57,10 @@ slice_bounds-publish-end c =
 pub publish-requires : goal.publish-requires
 publish-requires c =
     let going : c.walk.result ≡ Ok tt = grind (arith, common_steps) in
-    (walk_publishable _ c.requires c.plan_step-plan.ensures _ c.clear_tables.ensures.cleared
+    walk_publishable _ c.requires c.plan_step-plan.ensures _ c.clear_tables.ensures.cleared
     (rw c.root-root.ensures at c.walk.ensures.walked) refl refl going
-    (search rules) (search rules) (search rules) (record { same_a = refl; same_b = refl; same_c = refl; same_d = refl }) (search rules)).1
+    (search rules) (search rules) (search rules) (record { same_a = refl; same_b = refl; same_c = refl; same_d = refl }) (search rules)
+    c.lower-exponent.ensures
 
 pub returns-clause-left : goal.returns-clause-left
 returns-clause-left c task =
@@ -61,5 +68,5 @@ returns-clause-left c task =
     let going : c.walk.result ≡ Ok tt = grind (arith, common_steps) in
     walk_took _ task c.plan_step-plan.ensures _ c.clear_tables.ensures.cleared
     (rw c.root-root.ensures at c.walk.ensures.walked) refl refl going
-    (search rules) (search rules) (search rules) (record { same_a = refl; same_b = refl; same_c = refl; same_d = refl })
-    same.level_long same.low_long same.high_long (search rules) c.publish.ensures.published
+    (search rules) (search rules) (search rules) (record { same_a = refl; same_b = refl; same_c = refl; same_d = refl }) (search rules)
+    c.lower-exponent.ensures same.level_long same.low_long same.high_long c.publish.ensures.published
