@@ -7,8 +7,10 @@ use Prim.Native.Nat.{ℕ, ◌^◌, ◌<◌, ◌≤◌, min, max}
 use native.Mathlib.Omega.{arith}
 use Rattle.std.specs.Prelude.{Result, Ok}
 use Rattle.gates.specs.declared.Rule.{Rule}
-use Rattle.gates.specs.Gate.{X, Y, Z, H, S, S†, T, T†, CNOT, CZ, Gate, on, pair, toffoli, fredkin, Fits, halves}
-use Rattle.gates.specs.Rule.{does_mix, gate_rule, target, second}
+use Rattle.gates.specs.Gate.{X, Y, Z, H, S, S†, T, T†, CNOT, CZ, Gate, on, pair, toffoli, fredkin, Fits, inverse, halves}
+use Rattle.gates.specs.declared.Code.{Code}
+use Rattle.gates.specs.Code.{coded}
+use Rattle.gates.specs.Rule.{does_mix, code_rule, gate_rule, target, second}
 use Rattle.gates.proofs.LocalRules.{second_fits}
 use Rattle.gates.proofs.Masks.{names_below}
 use Rattle.gates.proofs.Inverses.{inverse_fits}
@@ -17,14 +19,32 @@ use Rattle.circuits.specs.declared.Reader.{Reader}
 use Rattle.circuits.specs.declared.Refusal.{Refusal}
 use Rattle.circuits.specs.Reading.{Reading, read, refused, gate}
 use Rattle.circuits.specs.Answers.{control, first_target, last_target, gate_data, Says}
+use Rattle.circuits.proofs.Codes.{coded_rule, inverse_code}
 use Rattle.circuits.proofs.Remaining.{remaining_next}
 use Rattle.plans.specs.declared.Side.{Side}
+use Rattle.plans.specs.declared.Side.TheVariants.{Right}
 use Rattle.plans.specs.declared.Action.{Action}
 use Rattle.plans.specs.Prepare.{as_number, side_of, named_mask}
 use Rattle.plans.proofs.Plans.{mask_names, names_fit}
 use Rattle.plans.specs.Layout.{Acts}
 use Rattle.choices.specs.declared.Lists.{Lists as Readers}
 use Rattle.choices.specs.Choosing.{sided, Sided, Acting, Read, Takes, from_U, from_V, Left, Chosen}
+
+-- ---- the data of a code, for a side
+
+gate_ruled : (code : Code) (rule : Rule) (g : Gate) → rule ≡ code_rule code → code ≡ coded g → rule ≡ gate_rule g
+gate_ruled code rule g is e = is ∙ ap code_rule e ∙ coded_rule g
+
+module _ (side : Side) (code : Code) (rule : Rule) (ruled : rule ≡ code_rule code) where
+  pub sided_right : side ≡ Right → (undone : Rule) → undone ≡ code_rule rule.inverse → Sided side code undone
+  sided_right is_right undone inverse_ruled true g s e =
+      gate_ruled rule.inverse undone (inverse g) inverse_ruled
+      (ap (λ (x : Rule). x.inverse) (gate_ruled code rule g ruled e) ∙ inverse_code g)
+  sided_right is_right undone inverse_ruled false g s e = let z : ◌≡◌ {A = ℕ} 0 1 = cc in absurd (omega arith)
+
+  pub sided_left : (side ≡ Right → ⊥) → Sided side code rule
+  sided_left not_right true g s e = absurd (not_right s)
+  sided_left not_right false g s e = gate_ruled code rule g ruled e
 
 -- what a gate adds to the exponent: 1 if it mixes
 pub gate_halves : (g : Gate) → as_number (does_mix (gate_rule g).act) ≡ halves g

@@ -1,16 +1,20 @@
 -- What a reader's answer says of the reading behind it.
 -- Assumes nothing.
+use mathlib.Core.Bool.{Bool, true, false, cond}
 use mathlib.Core.Path.{◌≡◌, refl, sym, ◌∙◌, ap, subst}
 use Prim.Native.Nat.{ℕ}
 use native.Mathlib.Omega.{arith}
 use Rattle.std.specs.Prelude.{Result, Ok, Err}
 use Rattle.std.specs.Result.{MatchResult, IsErrAnd}
 use Rattle.gates.specs.Gate.{Gate}
+use Rattle.gates.specs.Code.{coded}
+use Rattle.gates.specs.declared.Code.{Code}
+use Rattle.circuits.specs.declared.Fault.{Fault}
 use Rattle.circuits.specs.declared.Refusal.{Refusal}
 use Rattle.circuits.specs.declared.Gate.{Gate as GateRead}
 use Rattle.circuits.specs.declared.Reader.{Reader as ReaderAt}
-use Rattle.circuits.specs.Reading.{Reading, Reader, read, refused, followed, ◌>>=◌}
-use Rattle.circuits.specs.Answers.{Says, gate_data}
+use Rattle.circuits.specs.Reading.{Reading, Reader, read, refused, followed, ◌>>=◌, pure, refuse, checked}
+use Rattle.circuits.specs.Answers.{Says, control, first_target, last_target, gate_data, data_of, kept}
 
 -- ---- what was read, and what was not
 
@@ -49,7 +53,44 @@ module _ {A A' B C : Type 0} (f : A → A') (g : B → C) (m : Reader A) (k : A 
       → ((a : A) → v ≡ f a → Says g (k a mid.bytes.now mid.at) mid new r) → Says g ((m >>= k) old.bytes.now old.at) old new r
   said_then = from (m old.bytes.now old.at)
 
+-- ---- a number that was read, by its test
+
+module _ (fault : Fault) (test : ℕ → Bool) (m : Reader ℕ) (old new : ReaderAt) {answer : Result ℕ Refusal}
+    (said : Says (λ v. v) (m old.bytes.now old.at) old new answer) where
+  pub checked_kept : {r : Result ℕ Refusal} {passes : Bool} {v : ℕ} → answer ≡ Ok v → passes ≡ test v → r ≡ kept passes fault old.at v
+      → Says (λ v. v) (checked fault test m old.bytes.now old.at) old new r
+  checked_kept {r} {passes} {v} e tested is =
+      said_then (λ v. v) (λ v. v) m (λ a. cond (test a) (pure a) (refuse fault old.at)) old new new answer r said e
+      (λ a same. rw (sym same, sym tested) (by_test passes is))
+    where
+      by_test : (b : Bool) → r ≡ kept b fault old.at v → Says (λ v. v) (cond b (pure v) (refuse fault old.at) new.bytes.now new.at) new new r
+      by_test true is = (is, refl)
+      by_test false is = (is, refl)
+
 -- ---- gates
+
+-- the gate of which these are the code, the control or mask, the targets and the offset after it
+pub record Found (m : Reading Gate) (code : Code) (control_is target_is second_is next : ℕ) : Type 0 where
+  pub g : Gate
+  pub was_read : m ≡ read g next
+  pub of_code : coded g ≡ code
+  pub of_control : control g ≡ control_is
+  pub of_target : first_target g ≡ target_is
+  pub of_second : last_target g ≡ second_is
+
+module _ (old new : ReaderAt) {answer : Result GateRead Refusal} where
+  pub gate_read : (m : Reading Gate) {code : Code} {p q r : ℕ}
+      → Says gate_data m old new answer → answer ≡ Ok (data_of code p q r) → Found m code p q r new.at
+  gate_read m said e =
+      let w = said_ok gate_data old new answer m said e in
+      record {
+        g = w.value;
+        was_read = w.was_read;
+        of_code = ap (λ (d : GateRead). d.code) (sym w.value_is);
+        of_control = ap (λ (d : GateRead). d.control) (sym w.value_is);
+        of_target = ap (λ (d : GateRead). d.target) (sym w.value_is);
+        of_second = ap (λ (d : GateRead). d.second) (sym w.value_is);
+      }
 
 -- a gate's reading as the code has it
 abbrev pub with_data : Reading Gate → Reading GateRead

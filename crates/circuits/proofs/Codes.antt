@@ -7,7 +7,7 @@ use Prim.Native.Nat.{ℕ, zero, suc}
 use Rattle.std.specs.Prelude.{Some, Result}
 use Rattle.gates.specs.Gate.{Kind, X, Y, Z, H, S, S†, T, T†, Pair, CNOT, CZ, Gate, on, pair, toffoli, fredkin}
 use Rattle.gates.specs.Gate.{Meant, one, two, mask_one, mask_two, unknown, meant, inverse}
-use Rattle.gates.specs.Code.{code_number, coded}
+use Rattle.gates.specs.Code.{code_number, coded, coded_pair}
 use Rattle.gates.specs.declared.Code.{Code}
 use Rattle.gates.specs.declared.Rule.{Rule}
 use Rattle.gates.specs.declared.Operands.TheVariants.{Qubit, Controlled}
@@ -17,7 +17,7 @@ use Rattle.circuits.specs.declared.Gate.{Gate as GateRead}
 use Rattle.circuits.specs.declared.Reader.{Reader as ReaderAt}
 use Rattle.circuits.specs.Reading.{Reading, read, refused, qubit, target_qubit, mask, free_qubit, second_qubit, operands, followed}
 use Rattle.circuits.specs.Codes.{kind_code, pair_code, gate_code}
-use Rattle.circuits.specs.Answers.{Says, gate_data, operands_data}
+use Rattle.circuits.specs.Answers.{Says, gate_data, data_of, operands_data}
 use Rattle.circuits.proofs.Answers.{with_data, data_said}
 
 -- ---- the code of each meaning, and the meaning of each code
@@ -144,29 +144,33 @@ pair_operands CZ = refl
 
 -- ---- the data of a gate, by what follows its code
 
--- a gate that ends with its last target
-last_data : (make : ℕ → Gate) (m : Reading ℕ)
-    → followed m (λ q next. read (gate_data (make q)) next) ≡ with_data (followed m (λ q next. read (make q) next))
-last_data make (read q next) = refl
-last_data make (refused r) = refl
+-- a gate that ends with its last target, and one that has no other
+last_data : (made : ℕ → GateRead) (make : ℕ → Gate) → ((q : ℕ) → made q ≡ gate_data (make q))
+    → (last : Reading ℕ) → followed last (λ q next. read (made q) next) ≡ with_data (followed last (λ q next. read (make q) next))
+last_data made make same (read q next) = ap (λ (d : GateRead). read d next) (same q)
+last_data made make same (refused r) = refl
+
+pub placed_answer : (code : Code) (control : ℕ) (make : ℕ → Gate) → ((q : ℕ) → data_of code control q q ≡ gate_data (make q)) → (last : Reading ℕ)
+    → followed last (λ q next. read (data_of code control q q) next) ≡ with_data (followed last (λ q next. read (make q) next))
+placed_answer code control = last_data (λ q. data_of code control q q)
 
 module _ (n : ℕ) (s : List ℕ) where
   pair_data : (k : Pair) (first : Reading ℕ)
       → followed first (λ p next. followed (target_qubit n p s next) (λ q next. read (gate_data (pair k p q)) next))
       ≡ with_data (followed first (λ p next. followed (target_qubit n p s next) (λ q next. read (pair k p q) next)))
-  pair_data k (read p next) = last_data (pair k p) (target_qubit n p s next)
+  pair_data k (read p next) = placed_answer (coded_pair k) p (pair k p) (λ q. refl) (target_qubit n p s next)
   pair_data k (refused r) = refl
 
   toffoli_data : (first : Reading ℕ)
       → followed first (λ m next. followed (free_qubit n m s next) (λ q next. read (gate_data (toffoli m q)) next))
       ≡ with_data (followed first (λ m next. followed (free_qubit n m s next) (λ q next. read (toffoli m q) next)))
-  toffoli_data (read m next) = last_data (toffoli m) (free_qubit n m s next)
+  toffoli_data (read m next) = placed_answer Code.Toffoli m (toffoli m) (λ q. refl) (free_qubit n m s next)
   toffoli_data (refused r) = refl
 
   second_data : (m : ℕ) (first : Reading ℕ)
       → followed first (λ p next. followed (second_qubit n m p s next) (λ q next. read (gate_data (fredkin m p q)) next))
       ≡ with_data (followed first (λ p next. followed (second_qubit n m p s next) (λ q next. read (fredkin m p q) next)))
-  second_data m (read p next) = last_data (fredkin m p) (second_qubit n m p s next)
+  second_data m (read p next) = last_data (λ q. gate_data (fredkin m p q)) (fredkin m p) (λ q. refl) (second_qubit n m p s next)
   second_data m (refused r) = refl
 
   fredkin_data : (first : Reading ℕ)
@@ -180,14 +184,14 @@ module _ (n : ℕ) (s : List ℕ) where
   pub code_data : (start at : ℕ) (c : Code)
       → operands_data n c (code_rule c).operands s at ≡ with_data (operands n start (meant (code_number c)) s at)
   unfolding meant
-  code_data start at Code.X = last_data (on X) (qubit n s at)
-  code_data start at Code.Y = last_data (on Y) (qubit n s at)
-  code_data start at Code.Z = last_data (on Z) (qubit n s at)
-  code_data start at Code.H = last_data (on H) (qubit n s at)
-  code_data start at Code.S = last_data (on S) (qubit n s at)
-  code_data start at Code.SDagger = last_data (on S†) (qubit n s at)
-  code_data start at Code.T = last_data (on T) (qubit n s at)
-  code_data start at Code.TDagger = last_data (on T†) (qubit n s at)
+  code_data start at Code.X = placed_answer Code.X 0 (on X) (λ q. refl) (qubit n s at)
+  code_data start at Code.Y = placed_answer Code.Y 0 (on Y) (λ q. refl) (qubit n s at)
+  code_data start at Code.Z = placed_answer Code.Z 0 (on Z) (λ q. refl) (qubit n s at)
+  code_data start at Code.H = placed_answer Code.H 0 (on H) (λ q. refl) (qubit n s at)
+  code_data start at Code.S = placed_answer Code.S 0 (on S) (λ q. refl) (qubit n s at)
+  code_data start at Code.SDagger = placed_answer Code.SDagger 0 (on S†) (λ q. refl) (qubit n s at)
+  code_data start at Code.T = placed_answer Code.T 0 (on T) (λ q. refl) (qubit n s at)
+  code_data start at Code.TDagger = placed_answer Code.TDagger 0 (on T†) (λ q. refl) (qubit n s at)
   code_data start at Code.Cnot = pair_data CNOT (qubit n s at)
   code_data start at Code.Cz = pair_data CZ (qubit n s at)
   code_data start at Code.Toffoli = toffoli_data (mask n 2 s at)

@@ -18,7 +18,7 @@ abbrev pub reader_at : Bor (List ℕ) → ℕ → ReaderAt
 reader_at bytes at = record { bytes = bytes; at = at }
 
 -- what a reader returns for what stands next, and how it moves: the value, as the code has it, and past it; or the refusal, and then it
--- reads the same bytes, and where in them is left open
+-- reads the same bytes, and where in them is left open here: `number` and `gate` say beside it that they stay
 abbrev pub Says : {A B : Type 0} → (A → B) → Reading A → ReaderAt → ReaderAt → Result B Refusal → Type 0
 Says f (read a next) old new r = (r ≡ Ok (f a)) × (new ≡ record old { at = next })
 Says f (refused why) old new r = (r ≡ Err why) × (new.bytes ≡ old.bytes)

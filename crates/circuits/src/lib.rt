@@ -1,7 +1,7 @@
 // Gate lists as bytes: numbers and gates, read one after another. Any bytes and any offset are safe input.
 #![tactic(auto)]
 
-ghost use Rattle.std.specs.Prelude.{◌≡◌, ◌^◌, ltb};
+ghost use Rattle.std.specs.Prelude.{◌≡◌, ◌^◌, ltb, OnErr};
 ghost use Rattle.gates.specs.Gate.{in_mask};
 ghost use Rattle.circuits.specs.Refusals.{base_limits};
 ghost use Rattle.circuits.specs.Reading.{byte, number, qubit, target_qubit, mask_below, mask, free_qubit, second_qubit, gate};
@@ -105,7 +105,7 @@ fn below_count(mask: u32, n: u32) -> bool
 // How many numbers a group of seven bits tells apart; a byte from there on says that another group follows.
 pub const GROUP: u32 = 128;
 
-// A list's bytes, borrowed, and the offset that is read next. Where it stands after a refusal is left open.
+// A list's bytes, borrowed, and the offset that is read next.
 #[derive(Clone, Copy)]
 pub struct Reader<'a> {
     pub bytes: &'a [u8],
@@ -132,8 +132,20 @@ impl<'a> Reader<'a> {
         Ok(byte)
     }
 
-    // The number that stands next: one to three groups of seven bits, lowest first, in the shortest form.
+    // The number that stands next. Where it is refused, the reader stands where it stood.
     pub fn number(&mut self) -> Result<u32, Refusal>
+        ensures says { Says (λ v. v) (number self.old.bytes.now self.old.at) self.old self.new result }
+        ensures stays { OnErr result (self.new ≡ self.old) }
+    {
+        let mut ahead = *self;
+        let value = ahead.groups()?;
+        *self = ahead;
+        Ok(value)
+    }
+
+    // The groups of the number that stands next: one to three of seven bits, lowest first, in the shortest form. Where this and the other
+    // private readers leave the reader after a refusal is open: `number` and `gate` lend them a copy, which takes its place if all was read.
+    fn groups(&mut self) -> Result<u32, Refusal>
         ensures { Says (λ v. v) (number self.old.bytes.now self.old.at) self.old self.new result }
     {
         let start = self.at;
@@ -160,7 +172,7 @@ impl<'a> Reader<'a> {
         ensures { Says (λ v. v) (qubit qubits self.old.bytes.now self.old.at) self.old self.new result }
     {
         let start = self.at;
-        let value = self.number()?;
+        let value = self.groups()?;
         kept(value < qubits, Fault::NoSuchQubit, start, value)
     }
 
@@ -180,7 +192,7 @@ impl<'a> Reader<'a> {
         ensures { Says (λ v. v) (mask_below qubits self.old.bytes.now self.old.at) self.old self.new result }
     {
         let start = self.at;
-        let value = self.number()?;
+        let value = self.groups()?;
         kept(below_count(value, qubits), Fault::NoSuchQubit, start, value)
     }
 
@@ -267,17 +279,28 @@ impl<'a> Reader<'a> {
         }
     }
 
-    // The gate that stands next, in a list of so many qubits.
+    // The code of the gate that stands next, and what follows it.
     #[tactic(auto, unfolding(crate::specs::Reading::gate))]
-    pub fn gate(&mut self, qubits: u32) -> Result<Gate, Refusal>
+    fn code_and_operands(&mut self, qubits: u32) -> Result<Gate, Refusal>
         ensures { Says gate_data (gate qubits self.old.bytes.now self.old.at) self.old self.new result }
     {
         let start = self.at;
-        let number = self.number()?;
+        let number = self.groups()?;
         let code = Code::try_from(number).map_err(|_| Refusal {
             fault: Fault::UnknownCode,
             offset: start,
         })?;
         self.operands(qubits, code, code.rule().operands)
+    }
+
+    // The gate that stands next, in a list of so many qubits. Where it is refused, the reader stands where it stood.
+    pub fn gate(&mut self, qubits: u32) -> Result<Gate, Refusal>
+        ensures says { Says gate_data (gate qubits self.old.bytes.now self.old.at) self.old self.new result }
+        ensures stays { OnErr result (self.new ≡ self.old) }
+    {
+        let mut ahead = *self;
+        let gate = ahead.code_and_operands(qubits)?;
+        *self = ahead;
+        Ok(gate)
     }
 }

@@ -15,7 +15,7 @@ use Rattle.inputs.proofs.split.Goals as goal
 was_read : (c : In_ok-length) → number c.args.bytes.now 0 ≡ read c.in_ok-length.field-0 c.number.new.self.at
 was_read c =
     let read : c.number.result ≡ Ok c.in_ok-length.field-0 = search rules in
-    length_read c.new-reader.ensures _ _ c.number.ensures read
+    length_read c.new-reader.ensures _ _ c.number.ensures.says read
 
 within : (c : In_ok-length) → c.number.new.self.at ≤ length c.args.bytes.now
 within c = number_within _ 0 (was_read c)
@@ -24,7 +24,7 @@ pub returns-in_err-length : goal.returns-in_err-length
 returns-in_err-length c =
     let r = map_refused c.number.result c.map_err.result _ _ c.map_err.ensures.cases c.in_err-length.was in
     let named : c.from_residual.result ≡ Err (bad_length r.0.fault) = search rules in
-    input_unread _ (length_unread c.new-reader.ensures _ _ c.number.ensures r.1) ∙ sym (ap split_report named)
+    input_unread _ (length_unread c.new-reader.ensures _ _ c.number.ensures.says r.1) ∙ sym (ap split_report named)
 
 pub slice_bounds-split_at_checked-count : goal.slice_bounds-split_at_checked-count
 slice_bounds-split_at_checked-count c = within c

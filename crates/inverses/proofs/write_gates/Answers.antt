@@ -8,14 +8,14 @@ use Rattle.inverses.proofs.write_gates.Goals as goal
 
 -- what follows the gate that a turn has read
 the_rest : (c : After-unwrap-gate)
-    → After c.loop.invariant c.loop-test.true c.gate.new.self c.gate.result c.gate.ensures c.unwrap-gate.result c.unwrap-gate.ensures
+    → After c.loop.invariant c.loop-test.true c.gate.new.self c.gate.result c.gate.ensures.says c.unwrap-gate.result c.unwrap-gate.ensures
 the_rest c = after _ _ _ _ _ _ _
 
 pub loop-init : goal.loop-init
 loop-init c = writing_none c.args.buffer.now (said _ c.requires.listed) c.new-reader.ensures
 
 pub unwrap-gate-requires : goal.unwrap-gate-requires
-unwrap-gate-requires c = rw (was_read_so c.loop.invariant c.loop-test.true c.gate.new.self c.gate.result c.gate.ensures) refl
+unwrap-gate-requires c = rw (was_read_so c.loop.invariant c.loop-test.true c.gate.new.self c.gate.result c.gate.ensures.says) refl
 
 pub overflow_sub-at : goal.overflow_sub-at
 overflow_sub-at c = omega (arith, (the_rest c).end)
@@ -31,5 +31,5 @@ write_gate-requires-clause-in_bounds c =
 
 pub loop-preserved : goal.loop-preserved
 loop-preserved c =
-    writing_more c.loop.invariant c.loop-test.true c.gate.new.self c.gate.result c.gate.ensures c.unwrap-gate.result c.unwrap-gate.ensures
+    writing_more c.loop.invariant c.loop-test.true c.gate.new.self c.gate.result c.gate.ensures.says c.unwrap-gate.result c.unwrap-gate.ensures
     _ (search (rules, c.write_gate.ensures.put.stored))

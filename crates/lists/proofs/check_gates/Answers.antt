@@ -13,11 +13,11 @@ loop-init c = left_first _ _ _ _ (omega arith)
 pub returns-in_err-gate : goal.returns-in_err-gate
 returns-in_err-gate c =
     let rest = c.args.gates - (c.loop.counter + 1) in
-    let e = left_refusal _ _ _ _ _ c.loop.invariant rest (omega (arith, c.loop-test.true)) _ _ c.gate.ensures c.in_err-gate.was in
+    let e = left_refusal _ _ _ _ _ c.loop.invariant rest (omega (arith, c.loop-test.true)) _ _ c.gate.ensures.says c.in_err-gate.was in
     search (rules, e)
 
 pub loop-preserved : goal.loop-preserved
-loop-preserved c = left_next _ _ _ _ _ c.loop.invariant _ (omega (arith, c.loop-test.true)) _ _ c.gate.ensures c.in_ok-gate.was
+loop-preserved c = left_next _ _ _ _ _ c.loop.invariant _ (omega (arith, c.loop-test.true)) _ _ c.gate.ensures.says c.in_ok-gate.was
 
 pub returns-then-reader : goal.returns-then-reader
 returns-then-reader c = left_bytes _ _ _ _ _ c.loop.invariant (omega (arith, c.loop-test.false)) c.if-reader.true

@@ -1,7 +1,7 @@
--- `circuits::Reader::number` meets its contract: byte by byte it is the definition's number. Assumes nothing.
+-- `circuits::Reader::groups` meets its contract: byte by byte it is the definition's number. Assumes nothing.
 use Rattle.std.proofs.Common.{rules}
 use Rattle.circuits.proofs.Numbers.{number_said}
-use Rattle.circuits.proofs.Reader.number.Goals as goal
+use Rattle.circuits.proofs.Reader.groups.Goals as goal
 
 pub returns-in_err-byte : goal.returns-in_err-byte
 returns-in_err-byte c = number_said _ _ _ _ _ (search rules)

@@ -1,4 +1,4 @@
--- `circuits::Reader::gate` meets its contract: the number that was read is a code, and what follows it is read by the code's data.
+-- `circuits::Reader::code_and_operands` meets its contract: the number that was read is a code, and what follows it is read by the code's data.
 -- Assumes nothing.
 use mathlib.Core.Path.{◌≡◌, refl, ◌∙◌, subst}
 use Prim.Native.Nat.{ℕ, ◌≤◌}
@@ -11,7 +11,7 @@ use Rattle.circuits.specs.Refusals.{refusal, unknown_code}
 use Rattle.circuits.specs.Reading.{number, operands, gate}
 use Rattle.circuits.proofs.Answers.{said_then, map_refused}
 use Rattle.circuits.proofs.Codes.{code_said}
-use Rattle.circuits.proofs.Reader.gate.Goals as goal
+use Rattle.circuits.proofs.Reader.code_and_operands.Goals as goal
 
 pub returns : goal.returns
 unfolding gate
@@ -19,7 +19,7 @@ returns c =
     let start = c.args.self.now.at in
     let code_is : c.try_from.result ≡ Ok c.in_ok-code.code = search rules in
     let number_is = subst (λ r. Numbered c.in_ok-number.number r) code_is c.try_from.ensures in
-    said_then (λ v. v) gate_data number (λ code. operands c.args.qubits start (meant code)) _ _ _ _ _ c.number.ensures c.in_ok-number.was
+    said_then (λ v. v) gate_data number (λ code. operands c.args.qubits start (meant code)) _ _ _ _ _ c.groups.ensures c.in_ok-number.was
     (λ code e. code_said c.args.qubits _ start _ c.in_ok-code.code _ code _ _ _ c.rule.ensures.is (number_is ∙ e) c.operands.ensures)
 
 pub returns-in_err-code : goal.returns-in_err-code
@@ -29,5 +29,5 @@ returns-in_err-code c =
     let r = map_refused c.try_from.result c.map_err.result _ _ c.map_err.ensures.cases c.in_err-code.was in
     let past = subst (λ r. Numbered c.in_ok-number.number r) r.1 c.try_from.ensures in
     let why : c.from_residual-in_err-code.result ≡ Err (refusal unknown_code start) = search rules in
-    said_then (λ v. v) gate_data number (λ code. operands c.args.qubits start (meant code)) _ _ _ _ _ c.number.ensures c.in_ok-number.was
+    said_then (λ v. v) gate_data number (λ code. operands c.args.qubits start (meant code)) _ _ _ _ _ c.groups.ensures c.in_ok-number.was
     (λ code e. rw (past_codes code (subst (λ (k : ℕ). 12 ≤ k) e past)) (why, refl))
