@@ -5,9 +5,9 @@ use mathlib.Core.List.{List, [], ◌∷◌}
 use Prim.Native.Nat.{ℕ, zero, suc, ◌+◌, ◌≤◌}
 use native.Mathlib.Omega.{arith}
 use borrow.Author.Tests.{ne_eqb, lt-leb}
-use lib.Dec.{eqb}
+use lib.Dec.{eqb, leb}
 use lib.ListN.{length}
-use Rattle.std.specs.List.{count_by}
+use Rattle.std.specs.List.{count_by, list_all}
 use Rattle.std.proofs.lemmas.Bool.Decides.{nat_tests}
 use Rattle.std.proofs.lemmas.List.Recursion.{is_count_by}
 use Rattle.schedules.specs.Schedule.{count, only_steps, fits}
@@ -40,6 +40,15 @@ only_counted (suc (suc x) ∷ s) =
     ne_eqb _ _ (λ e. omega (arith, few s, other 0 (suc (suc x)) s (λ e. omega arith), other 1 (suc (suc x)) s (λ e. omega arith))) in
     all ∙ sym (ap (λ (b : Bool). b && only_steps s) (lt-leb (suc (suc x)) 1 (omega arith)))
 
-pub fitted : (m p : ℕ) (s : List ℕ) → (eqb (count 0 s) m && (eqb (count 1 s) p && eqb (count 0 s + count 1 s) (length s))) ≡ fits m p s
+pub all_steps : (s : List ℕ) → list_all (λ x. leb x 1) s ≡ only_steps s
+all_steps [] = refl
+all_steps (x ∷ s) = ap (◌&&◌ (leb x 1)) (all_steps s)
+
+-- of a schedule without another byte and of the right length, the zeros alone need to be counted
+pub fitted : (m p : ℕ) (s : List ℕ) → (eqb (length s) (m + p) && (only_steps s && eqb (count 0 s) m)) ≡ fits m p s
 unfolding fits
-fitted m p s = ap (λ (b : Bool). eqb (count 0 s) m && (eqb (count 1 s) p && b)) (only_counted s)
+fitted m p s = by_steps (only_steps s) (only_counted s)
+  where
+    by_steps : (only : Bool) → eqb (count 0 s + count 1 s) (length s) ≡ only
+        → (eqb (length s) (m + p) && (only && eqb (count 0 s) m)) ≡ (eqb (count 0 s) m && (eqb (count 1 s) p && only))
+    by_steps only is = grind (arith, nat_tests)

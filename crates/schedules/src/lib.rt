@@ -3,7 +3,7 @@
 
 ghost use Rattle.std.specs.Prelude.{◌≡◌, ◌++◌, ◌+◌, ◌*◌, ◌<◌, ◌≤◌, length, drop};
 ghost use Rattle.schedules.specs.Limited.{Limited};
-ghost use Rattle.schedules.specs.Schedule.{gate_limit, fits, next_step, proportional, made, filled};
+ghost use Rattle.schedules.specs.Schedule.{gate_limit, only_steps, fits, next_step, proportional, made, filled};
 
 // Why no schedule was made, by the refusal's number.
 #[derive(Clone, Copy, PartialEq, Eq, Debug)]
@@ -12,13 +12,20 @@ pub enum ScheduleFault {
     ShortBuffer = 15,
 }
 
-// Whether the schedule has m zeros, p ones and no other byte.
+// Whether each byte is a step. The first other one ends the reading.
+fn only_steps(s: &[u8]) -> bool
+    ensures { result ≡ only_steps s.now }
+{
+    s.iter().all(|step| *step <= 1)
+}
+
+// Whether the schedule has m zeros, p ones and no other byte. A caller may lend any number of bytes: a schedule of another length is not read.
 pub fn fits(s: &[u8], m: u32, p: u32) -> bool
     ensures { result ≡ fits m p s.now }
 {
-    let zeros = s.iter().filter(|step| **step == 0).count();
-    let ones = s.iter().filter(|step| **step == 1).count();
-    zeros == m as usize && ones == p as usize && zeros + ones == s.len()
+    s.len() == m as usize + p as usize
+        && only_steps(s)
+        && s.iter().filter(|step| **step == 0).count() == m as usize
 }
 
 // The byte of the next step, with i and j gates already taken. A step stays a number: schedules are bytes in the C interface.
