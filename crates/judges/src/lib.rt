@@ -12,7 +12,10 @@ use checks::Lengths;
 use choices::Course;
 use miters::Report;
 use plans::{Scratch, Sizes};
-use stores::{Store, Used};
+use stores::Store;
+
+// The slots kept of the second store.
+const NOTHING: usize = 0;
 
 // The scratch for stores of up to 4,096 nodes and values: as many terminals, the slots of an index (one for each of them, and 8,192
 // heads), and those of the computed table (6 for each of them, and 4 for each of 32,768 entries).
@@ -47,8 +50,9 @@ fn judge_in(
     ensures same_second { SameColumns second.old second.new }
 {
     let ended = runs::run(course, sizes, first, second, scratch);
-    second.wipe(Used::default());
-    first.wipe(endings::kept(ended));
+    second.wipe(NOTHING, NOTHING);
+    let used = endings::kept(ended);
+    first.wipe(used.nodes as usize, used.values as usize);
     endings::report(&first.view(), course.n, ended)
 }
 

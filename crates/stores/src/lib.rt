@@ -99,13 +99,11 @@ impl Store<'_> {
     }
 
     // The columns' slots from the counts of used ones on become 0.
-    pub fn wipe(&mut self, used: Used)
-        requires { NodeColumns (columns_of self.old) used.nodes × ValueColumns (columns_of self.old) used.values }
-        ensures wiped { columns_of self.new ≡ wiped used.nodes used.values (columns_of self.old) }
+    pub fn wipe(&mut self, nodes: usize, values: usize)
+        requires { NodeColumns (columns_of self.old) nodes × ValueColumns (columns_of self.old) values }
+        ensures wiped { columns_of self.new ≡ wiped nodes values (columns_of self.old) }
         ensures same_columns { SameColumns self.old self.new }
     {
-        let nodes = used.nodes as usize;
-        let values = used.values as usize;
         self.level[nodes..].fill(0);
         self.low[nodes..].fill(0);
         self.high[nodes..].fill(0);

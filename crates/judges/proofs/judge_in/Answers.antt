@@ -4,7 +4,7 @@ use mathlib.Core.Path.{sym, ◌∙◌, ap}
 use Rattle.stores.specs.Columns.{Columns, columns_of}
 use Rattle.endings.specs.Ending.{report_of}
 use Rattle.judges.proofs.Passing.{passed_task}
-use Rattle.judges.proofs.Reports.{Run_over, second_slots, first_slots, over_readable, over_answer}
+use Rattle.judges.proofs.Reports.{Run_over, first_slots, over_readable, over_answer}
 use Rattle.judges.proofs.judge_in.Goals.{After-run-ended}
 use Rattle.judges.proofs.judge_in.Goals as goal
 
@@ -24,19 +24,15 @@ over c = record {
 pub run-ended-requires : goal.run-ended-requires
 run-ended-requires c = passed_task {first = columns_of c.args.first.now} {second = columns_of c.args.second.now} c.requires.passed c.requires.scratch
 
-pub wipe-requires : goal.wipe-requires
-wipe-requires c = rw (c.default.ensures.0, c.default.ensures.1) (second_slots (over (goal.at.wipe-requires c).After-run-ended))
-
 pub wipe-requires-2 : goal.wipe-requires-2
-wipe-requires-2 c = first_slots (over (goal.at.wipe-requires-2 c).After-run-ended) _ c.kept.ensures
+wipe-requires-2 c = first_slots (over (goal.at.wipe-requires-2 c).After-run-ended) _ c.kept-used.ensures
 
 pub report-requires : goal.report-requires
 report-requires c =
-    over_readable (over (goal.at.report-requires c).After-run-ended) _ c.kept.ensures _ (c.view.ensures ∙ c.wipe-2.ensures.wiped)
+    over_readable (over (goal.at.report-requires c).After-run-ended) _ c.kept-used.ensures _ (c.view.ensures ∙ c.wipe-2.ensures.wiped)
     {last = c.wipe-2.new.self} (sym c.view.ensures) c.wipe-2.ensures.same_columns
 
 pub returns-clause-answer : goal.returns-clause-answer
 returns-clause-answer c =
-    over_answer (over (goal.at.returns-clause-answer c).After-run-ended) _ c.kept.ensures _ c.wipe-2.ensures.wiped _
-    (rw (c.default.ensures.0, c.default.ensures.1) at c.wipe.ensures.wiped)
+    over_answer (over (goal.at.returns-clause-answer c).After-run-ended) _ c.kept-used.ensures _ c.wipe-2.ensures.wiped _ c.wipe.ensures.wiped
     (c.report.ensures ∙ ap (λ (C : Columns). report_of c.args.course.now.n C c.run-ended.result) c.view.ensures)
