@@ -79,9 +79,11 @@ module _ (step : Planned) (w w' : Work) (lv l h r : ℕ) (working : Working step
           filled = rw (building_is w' still) (rw (u.0, u.1, u.2, u.3, u.4, same.nodes.heads) holds.0, rw values_same holds.1);
         }
 
-    ended_apart : (l ≡ h → ⊥) → Counted node_decides unused wanted nodes (λ i. 2 * i + 1) (node_room w) (NodesMade w.nodes.now w'.nodes.now) r w'.full
+    ended_apart : (l ≡ h → ⊥)
+        → Counted node_decides unused wanted nodes (λ i. 2 * i + 1) (node_room w) (NodesMade w.nodes.now w'.nodes.now)
+        w.nodes.now.used w'.nodes.now.used r w'.full
         → Ended w w' lv l h r
-    ended_apart differ (fits small answer below (held, _, count) still) =
+    ended_apart differ (fits small answer below (held, _, _) count still) =
         let store : store_in w' ≡ (put_node wanted (store_in w)).store = rw (count, held.nodes, values_same) in
         let (_, values) = holds in
         record {
@@ -91,7 +93,7 @@ module _ (step : Planned) (w w' : Work) (lv l h r : ℕ) (working : Working step
               (held_roomy held values) (rw (← answer) below));
           filled = rw (building_is w' still) (rw (same.nodes.level_long, same.nodes.heads, count, held.nodes) held, rw values_same values);
         }
-    ended_apart differ (over large answer past) =
+    ended_apart differ (over large answer _ past) =
         let is = node_apart (node_room w) (value_room w) lv l h (store_in w) differ in
         let no_room : roomy (node_room w) (value_room w) (node_over lv l h (store_in w)).store ≡ false
         = ap (λ (D : Diagram Entry). roomy (node_room w) (value_room w) D.store) (sym is)
@@ -115,7 +117,8 @@ module _ (step : Planned) (w w' : Work) (lv l h r : ℕ) (working : Working step
             ended_alike alike (is ∙ ap answered some ∙ code_ref_of l) (now ∙ ap is_none some) u
         by_answers (no differ) =
             let (o, is, now, made) = join.made builds in
-            ended_apart differ (put_counted node_decides unused wanted nodes (λ i. 2 * i + 1) (node_room w) few is now
+            ended_apart differ (put_counted node_decides unused wanted nodes (λ i. 2 * i + 1) (node_room w) few
+            (λ _ made. made.2) (λ unchanged. unchanged.4) is now
             (made.apart (λ e. differ (ref_of_injective l h e))))
 
   -- either way

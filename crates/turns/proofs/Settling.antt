@@ -81,8 +81,9 @@ module _ (step : Planned) (w w' : Work) (σ : State) (valid : ValidPlan (plan_of
       made_is : put_value same_entry e (store_in w) ≡ made P s σ (store_in w)
       made_is = sym (made_leaf P s valid σ leaf (store_in w))
 
-      by_count : Counted entry_decides 𝟘 e values (λ j. 2 * j) (value_room w) (ValuesMade w.values.now w'.values.now) r w'.full → Done
-      by_count (fits small answer below (held, _, count) still) =
+      by_count : Counted entry_decides 𝟘 e values (λ j. 2 * j) (value_room w) (ValuesMade w.values.now w'.values.now)
+          w.values.now.used w'.values.now.used r w'.full → Done
+      by_count (fits small answer below (held, _, _) count still) =
           let store : store_in w' ≡ (put_value same_entry e (store_in w)).store = rw (count, held.values, nodes_same) in
           let (nodes, _) = holds in
           record {
@@ -90,7 +91,7 @@ module _ (step : Planned) (w w' : Work) (σ : State) (valid : ValidPlan (plan_of
                 (made_walks made_is within (held_roomy nodes held) (rw (← answer) below));
             filled = rw (building_is w' still) (rw nodes_same nodes, rw (same.values.terminals_long, same.values.heads, count, held.values) held);
           }
-      by_count (over large answer past) =
+      by_count (over large answer _ past) =
           let no_room : roomy (node_room w) (value_room w) (made P s σ (store_in w)).store ≡ false
           = ap (λ (D : Diagram Entry). roomy (node_room w) (value_room w) D.store) (sym made_is)
           ∙ ap (λ (b : Bool). leb (length (store_in w).nodes) (node_room w) && b) (lt-leb (length (keep same_entry e values)) (value_room w) large)
@@ -103,7 +104,7 @@ module _ (step : Planned) (w w' : Work) (σ : State) (valid : ValidPlan (plan_of
       places : TerminalPut w w' e r → Done
       places placed =
           let (o, is, now, put) = placed.made builds in
-          by_count (put_counted entry_decides 𝟘 e values (λ j. 2 * j) (value_room w) few is now put)
+          by_count (put_counted entry_decides 𝟘 e values (λ j. 2 * j) (value_room w) few (λ _ made. made.2) (λ unchanged. unchanged.2) is now put)
         where
           few : (j : ℕ) → j < value_room w → 2 * j < reference_limit
           few j less = let (_, held) = holds in omega (arith, held.indexed.limit)
