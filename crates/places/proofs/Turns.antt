@@ -78,6 +78,10 @@ found_second {high = high} split is nowhere then = then ∙ sym (split ∙ ap (�
 
 -- ---- one bit
 
+-- the number of the level after a block's fits a word
+pub level_fits : (task : Task) (block : Block) → task.levels ≤ 32 → Fits w32 (task.levels - block.left + 1)
+level_fits task block few = record { fits = omega (arith, few) }
+
 module _ {nodes : Nodes} {task : Task} {block : Block} (at : Ready nodes task block) (some : block.left ≡ 0 → ⊥) where
   pub half_ready : (b : Bool) → Ready nodes task (half nodes task block b)
   half_ready b = record {
@@ -89,12 +93,9 @@ module _ {nodes : Nodes} {task : Task} {block : Block} (at : Ready nodes task bl
     after_room = room_down block.next some at.next_room b;
   }
 
-  -- the low half's root is one of the used nodes, and the number of the level after it fits a word
+  -- the low half's root is one of the used nodes
   pub low_used : Used task.nodes (half nodes task block false).root
   low_used = (half_ready false).used
-
-  pub level_fits : task.levels ≤ 32 → Fits w32 (task.levels - block.left + 1)
-  level_fits few = record { fits = omega (arith, few) }
 
   -- the measure of the search falls
   pub half_less : (b : Bool) {h : Block} → h ≡ half nodes task block b → h.left < block.left
