@@ -45,7 +45,7 @@ extern "C" {
 #define GANNETROPE_ENTRY 0  /* equal: the factor; different: the first forbidding entry */
 #define GANNETROPE_CORNER 4 /* different: the entry at row 0, column 0 */
 
-/* Bytes of stack that are enough for a call of gannetrope_judge. The most that was seen in use is 943, 795,103 and 4,727,263. */
+/* Bytes of stack that are enough for a call of gannetrope_judge. The most that was seen in use is 951, 795,103 and 4,727,263. */
 #define GANNETROPE_STACK_REFUSED 65536 /* refused with 1 to 12 or 17, before any step */
 #define GANNETROPE_STACK_SMALL 1048576 /* N and L at most 4,096 */
 #define GANNETROPE_STACK_LARGE 8388608 /* any call */
